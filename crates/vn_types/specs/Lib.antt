@@ -1,0 +1,9 @@
+pub mod Words
+pub mod OctetOrder
+pub mod Paths
+pub mod PathTexts
+pub mod PathOrder
+pub mod Interfaces
+pub mod PerStack
+pub mod Assembled
+pub mod Errors

@@ -1,0 +1,25 @@
+//! Plain types of the product: addresses, names, paths, error numbers, and the model that all tables
+//! kept per stack share.
+#![tactic(auto)]
+
+mod address;
+mod errno;
+mod half;
+mod interface;
+mod label;
+mod memory;
+mod name;
+mod octets;
+mod path;
+mod per_stack;
+
+pub use address::{Ip4, Mac, Prefix};
+pub use errno::Errno;
+pub use half::Half;
+pub use interface::{HalfId, If, IfName, IfOf, Sid, Side, same_half, same_interface};
+pub use label::Label;
+pub use memory::{NoMemory, Reply};
+pub use name::{Name, SockName};
+pub use octets::Octets;
+pub use path::{Path, join};
+pub use per_stack::{Empty, make_room};

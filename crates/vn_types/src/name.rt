@@ -1,0 +1,80 @@
+ghost use Rattle.std.specs.Prelude.{◌≡◌, IfOk, true};
+ghost use Rattle.vn_types.specs.Words.{is_name, is_sock_name};
+
+use crate::memory::NoMemory;
+use crate::octets::Octets;
+use std::marker::Model;
+
+/// The name of a variable or a constructor: `[a-z][a-z0-9_.]{0,63}`.
+#[derive(PartialEq, Eq, PartialOrd, Ord, Drop)]
+pub struct Name {
+    text: Octets,
+}
+
+impl Model for Name {
+    ghost use Rattle.std.specs.Prelude.{List, ℕ, ◌≡◌, true};
+    ghost use Rattle.vn_types.specs.Words.{is_name};
+
+    ghost Value = { List ℕ };
+
+    ghost view = { λ a. a.text };
+
+    ghost invariant = { λ a. is_name a.text ≡ true };
+
+    ghost inverse = { λ t. record { text = t } };
+}
+
+/// The name of a socket: `[a-z][a-z0-9]{0,15}`.
+#[derive(PartialEq, Eq, PartialOrd, Ord, Drop)]
+pub struct SockName {
+    text: Octets,
+}
+
+impl Model for SockName {
+    ghost use Rattle.std.specs.Prelude.{List, ℕ, ◌≡◌, true};
+    ghost use Rattle.vn_types.specs.Words.{is_sock_name};
+
+    ghost Value = { List ℕ };
+
+    ghost view = { λ a. a.text };
+
+    ghost invariant = { λ a. is_sock_name a.text ≡ true };
+
+    ghost inverse = { λ t. record { text = t } };
+}
+
+impl Name {
+    /// The octets of the name.
+    pub fn text(&self) -> &[u8]
+        ensures text { result.now ≡ self.now }
+        ensures name { is_name self.now ≡ true }
+    {
+        self.text.as_slice()
+    }
+
+    /// The same name once more.
+    pub fn copy(&self) -> Result<Name, NoMemory>
+        ensures { IfOk result (λ n. n ≡ self.now) }
+    {
+        let text = self.text.copy()?;
+        Ok(Name { text })
+    }
+}
+
+impl SockName {
+    /// The octets of the name.
+    pub fn text(&self) -> &[u8]
+        ensures text { result.now ≡ self.now }
+        ensures name { is_sock_name self.now ≡ true }
+    {
+        self.text.as_slice()
+    }
+
+    /// The same name once more.
+    pub fn copy(&self) -> Result<SockName, NoMemory>
+        ensures { IfOk result (λ n. n ≡ self.now) }
+    {
+        let text = self.text.copy()?;
+        Ok(SockName { text })
+    }
+}
