@@ -3,14 +3,17 @@
 #![tactic(auto)]
 
 mod address;
+mod cut;
 mod errno;
 mod half;
 mod interface;
 mod label;
 mod memory;
 mod name;
+mod number;
 mod octets;
 mod path;
+mod path_text;
 mod per_stack;
 
 pub use address::{Ip4, Mac, Prefix};
@@ -20,6 +23,8 @@ pub use interface::{HalfId, If, IfName, IfOf, Sid, Side, same_half, same_interfa
 pub use label::Label;
 pub use memory::{NoMemory, Reply};
 pub use name::{Name, SockName};
+pub use number::read_number;
 pub use octets::Octets;
 pub use path::{Path, join};
+pub use path_text::{read_path, write_path};
 pub use per_stack::{Empty, make_room};
