@@ -1,5 +1,5 @@
 -- Tests on the names of interfaces, and names of halves under a renaming.
-use Rattle.std.specs.Prelude.{ℕ, Bool, true, false, ◌==◌, ◌&&◌}
+use Rattle.std.specs.Prelude.{Bool, true, false, ◌==◌, ◌&&◌}
 use Rattle.vn_types.specs.declared.interface.Side.{Side}
 use Rattle.vn_types.specs.declared.interface.Side.TheVariants.{A, B}
 use Rattle.vn_types.specs.declared.interface.HalfId.{HalfId}

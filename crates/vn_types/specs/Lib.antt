@@ -1,8 +1,11 @@
 pub mod Words
+pub mod NumberWords
+pub mod NameWords
 pub mod OctetOrder
 pub mod Paths
 pub mod PathTexts
 pub mod PathOrder
+pub mod PathWords
 pub mod Interfaces
 pub mod PerStack
 pub mod Assembled

@@ -1,12 +1,12 @@
 -- The order of lists of octets is total, and its equality is equality.
-use Rattle.std.specs.Prelude.{◌≡◌, ℕ, List, Some, true}
+use Rattle.std.specs.Prelude.{◌≡◌, ℕ, List, Some}
 use Rattle.std.specs.Str.{bytes_eq}
-use Rattle.std.specs.Ordering.{nat_cmp, eq_by_cmp, is_eq, ordering_reverse}
+use Rattle.std.specs.Ordering.{nat_cmp, eq_by_cmp, ordering_reverse}
 use Rattle.std.specs.declared.cmp.Ordering.{Ordering}
 use Rattle.std.specs.declared.cmp.Ordering.TheVariants.{Less, Equal, Greater}
-use Rattle.std.specs.Cmp.{IsPartialOrder, IsEquivalence, both_ways, Equal-is, po}
+use Rattle.std.specs.Cmp.{IsPartialOrder, both_ways, Equal-is, po}
 use Rattle.std.specs.FinMap.{slice_cmp-IsAntisymmetric, nat_cmp-IsAntisymmetric}
-use Rattle.std.specs.Cmp.Lexicographic.{slice_cmp, nat_list_cmp_total, nat_list_eq_equiv}
+use Rattle.std.specs.Cmp.Lexicographic.{slice_cmp, nat_list_cmp_total}
 use Rattle.std.proofs.Common.{refl}
 use Rattle.std.proofs.lemmas.Slice.Eq.{bytes_eq-Decides}
 

@@ -1,5 +1,5 @@
 -- A path's text gives its labels back.
-use Rattle.std.specs.Prelude.{◌≡◌, ℕ, ◌≤◌, Bool, true, false, ◌&&◌, ◌==◌, List, [], ◌∷◌, ◌++◌, not, cond, refl, length, nat_le}
+use Rattle.std.specs.Prelude.{◌≡◌, ℕ, ◌≤◌, Bool, true, false, ◌&&◌, ◌==◌, List, [], ◌∷◌, ◌++◌, not, cond, refl, length}
 use Rattle.std.proofs.Common.{sym, ap, ◌∙◌, ◌+◌, arith, append_assoc, length-append}
 use Rattle.std.specs.List.{list_all}
 use Rattle.std.proofs.lemmas.Bool.Decides.{nat_tests}
@@ -52,12 +52,12 @@ unfolding is_label
 label_no_dots [] h = refl
 label_no_dots (c ∷ cs) h = grind (arith, nat_tests, octets_no_dots cs)
 
-pieces-joined : (label : List ℕ) (labels : Path) → list_all is_label (label ∷ labels) ≡ true → pieces (joined (label ∷ labels)) ≡ label ∷ labels
+pub pieces-joined : (label : List ℕ) (labels : Path) → list_all is_label (label ∷ labels) ≡ true → pieces (joined (label ∷ labels)) ≡ label ∷ labels
 unfolding joined
 pieces-joined label [] h = pieces-last label (label_no_dots label (and_first _ _ h))
 pieces-joined label (next ∷ labels) h = pieces-dot label _ (label_no_dots label (and_first _ _ h)) ∙ ap (λ ls. label ∷ ls) (pieces-joined next labels (and_second _ _ h))
 
-abbrev filled : List ℕ → Bool
+abbrev pub filled : List ℕ → Bool
 filled [] = false
 filled (c ∷ cs) = true
 
@@ -70,7 +70,7 @@ filled_left : (a b : List ℕ) → filled a ≡ true → filled (a ++ b) ≡ tru
 filled_left [] b f = cc
 filled_left (c ∷ a) b f = refl
 
-joined_filled : (l : List ℕ) (ls : Path) → list_all is_label (l ∷ ls) ≡ true → filled (joined (l ∷ ls)) ≡ true
+pub joined_filled : (l : List ℕ) (ls : Path) → list_all is_label (l ∷ ls) ≡ true → filled (joined (l ∷ ls)) ≡ true
 unfolding joined
 joined_filled l [] h = label_filled l (and_first _ _ h)
 joined_filled l (m ∷ ls) h = filled_left l _ (label_filled l (and_first _ _ h))

@@ -3,6 +3,7 @@
 #![tactic(auto)]
 
 mod address;
+mod cut;
 mod errno;
 mod half;
 mod interface;
@@ -10,8 +11,10 @@ mod label;
 mod list;
 mod memory;
 mod name;
+mod number;
 mod octets;
 mod path;
+mod path_text;
 mod per_stack;
 
 pub use address::{Ip4, Mac, Prefix};
@@ -22,6 +25,8 @@ pub use label::Label;
 pub use list::List;
 pub use memory::{NoMemory, Reply};
 pub use name::{Name, SockName};
+pub use number::read_number;
 pub use octets::Octets;
 pub use path::{Path, join};
+pub use path_text::{read_path, write_path};
 pub use per_stack::{Empty, make_room};

@@ -1,8 +1,11 @@
 ghost use Rattle.std.specs.Prelude.{◌≡◌, IfOk, true};
-ghost use Rattle.vn_types.specs.Words.{is_name, is_sock_name};
+ghost use Rattle.std.specs.List.{list_all};
+ghost use Rattle.vn_types.specs.Words.{is_name, is_name_octet, is_sock_name};
+ghost use Rattle.vn_types.specs.NameWords.{name_of};
 
 use crate::memory::NoMemory;
 use crate::octets::Octets;
+use std::alloc::Global;
 use std::marker::Model;
 
 /// The name of a variable or a constructor: `[a-z][a-z0-9_.]{0,63}`.
@@ -44,6 +47,18 @@ impl Model for SockName {
 }
 
 impl Name {
+    /// The name that a text is.
+    #[tactic(auto, unfolding(crate::specs::NameWords::name_of))]
+    pub fn read(alloc: Global, text: &[u8]) -> Result<Option<Name>, NoMemory>
+        ensures { IfOk result (λ r. r ≡ name_of text.now) }
+    {
+        if !is_name(text) {
+            return Ok(None);
+        }
+        let text = Octets::from_slice(alloc, text)?;
+        Ok(Some(Name { text }))
+    }
+
     /// The octets of the name.
     pub fn text(&self) -> &[u8]
         ensures text { result.now ≡ self.now }
@@ -77,4 +92,28 @@ impl SockName {
         let text = self.text.copy()?;
         Ok(SockName { text })
     }
+}
+
+#[tactic(auto, unfolding(crate::specs::Words::is_name))]
+fn is_name(text: &[u8]) -> bool
+    ensures { result ≡ is_name text.now }
+{
+    match text {
+        [first, rest @ ..] => {
+            first.is_ascii_lowercase() && are_name_octets(rest) && rest.len() <= 63
+        }
+        [] => false,
+    }
+}
+
+fn are_name_octets(text: &[u8]) -> bool
+    ensures { result ≡ list_all is_name_octet text.now }
+{
+    text.iter().all(|c| is_name_octet(*c))
+}
+
+fn is_name_octet(c: u8) -> bool
+    ensures { result ≡ is_name_octet c }
+{
+    c.is_ascii_lowercase() || c.is_ascii_digit() || c == b'_' || c == b'.'
 }

@@ -1,6 +1,8 @@
-ghost use Rattle.std.specs.Prelude.{◌≡◌, ◌+◌, ◌≤◌, List, ℕ, [], ◌++◌, ◌∷◌, length, IfOk, OnOk, Some, true, refl};
+ghost use Rattle.std.specs.Prelude.{◌≡◌, ◌↔◌, ◌+◌, ◌≤◌, List, ℕ, [], IsTrue, ◌++◌, ◌∷◌, length, IfOk, OnOk, Some, true, refl};
 ghost use Rattle.std.specs.Cmp.{partial_equiv_from_equiv};
-ghost use Rattle.vn_types.specs.Paths.{path_eq, path_cmp, glued, is_path, is_under};
+ghost use Rattle.vn_types.specs.Paths.{path_eq, path_cmp, path_text, glued, is_path, is_under};
+ghost use Rattle.vn_types.specs.PathTexts.{IsSpelt};
+ghost use Rattle.vn_types.specs.PathWords.{text_order};
 ghost use Rattle.vn_types.specs.PathOrder.{path_total, path_equiv, path_po, path_ties};
 
 use crate::label::Label;
@@ -62,7 +64,10 @@ impl Ord for Path {
 
     ghost matches_eq = { path_ties };
 
-    fn cmp(&self, other: &Path) -> Ordering {
+    fn cmp(&self, other: &Path) -> Ordering
+        ensures by_labels { result ≡ path_cmp self.now other.now }
+        ensures by_text { result ≡ text_order self.now other.now }
+    {
         self.text.cmp(&other.text)
     }
 }
@@ -76,6 +81,25 @@ impl Path {
             labels: Vec::new(alloc),
             text: Octets::new(alloc),
         }
+    }
+
+    /// The path of labels, with their text.
+    pub(crate) fn spelt(labels: Vec<Label>, text: Octets) -> Path
+        requires { IsSpelt labels.items text }
+        ensures { result ≡ labels.items }
+    {
+        Path { labels, text }
+    }
+
+    /// The path as a user writes it.
+    pub(crate) fn text(&self) -> &[u8]
+        ensures text { result.now ≡ path_text self.now }
+        ensures path { is_path self.now ≡ true }
+    {
+        if self.labels.as_slice().is_empty() {
+            return b"host";
+        }
+        self.text.as_slice()
     }
 
     /// The same path once more.
@@ -108,7 +132,8 @@ impl Path {
     /// Whether this path is the other one or below it.
     #[tactic(auto, unfolding(crate::specs::Paths::is_under))]
     pub fn is_under(&self, other: &Path) -> bool
-        ensures { result ≡ is_under self.now other.now }
+        ensures test { result ≡ is_under self.now other.now }
+        ensures below { IsTrue result ↔ ((rest : List (List ℕ)) × (self.now ≡ other.now ++ rest)) }
     {
         self.labels.as_slice().starts_with(other.labels.as_slice())
     }

@@ -1,4 +1,4 @@
-use Rattle.std.proofs.Common.{◌≡◌, ◌++◌, ◌+◌, ◌≤◌, length, ap, ap₂, sym, subst, ◌∙◌, arith}
+use Rattle.std.proofs.Common.{◌≡◌, ◌++◌, ◌+◌, ◌≤◌, length, ap, ap₂, sym, ◌∙◌}
 use Rattle.vn_types.specs.Paths.{joined, is_path, glued}
 use Rattle.vn_types.specs.PathTexts.{joined-append, is_path-append, labels_all}
 use Rattle.vn_types.proofs.path.join.Goals as goal

@@ -1,6 +1,5 @@
-use Rattle.std.proofs.Common.{◌≡◌, [], List, ℕ, refl, ap, sym, subst, ◌∙◌}
+use Rattle.std.proofs.Common.{ap, sym, ◌∙◌}
 use Rattle.vn_types.specs.Paths.{joined, is_path}
-use Rattle.vn_types.specs.PathTexts.{IsSpelt}
 use Rattle.vn_types.proofs.path.Path.host.Goals as goal
 
 pub invariant_of-result : goal.invariant_of-result
