@@ -1,0 +1,13 @@
+pub mod Names
+pub mod Table
+pub mod World
+pub mod Events
+pub mod Refusal
+pub mod Local
+pub mod Step
+pub mod Sets
+pub mod Changed
+pub mod Isolation
+pub mod Clean
+pub mod Schedule
+pub mod Text

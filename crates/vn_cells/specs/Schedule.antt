@@ -1,0 +1,39 @@
+-- Which history a script asks for, line by line and part by part.
+use Rattle.std.specs.Prelude.{◌≡◌, List, [], ◌∷◌, ◌++◌}
+use Rattle.vn_cells.specs.declared.event.Event.{Event}
+use Rattle.vn_cells.specs.declared.event.Event.TheVariants.{Cmd}
+use Rattle.vn_cells.specs.declared.script.LaneLine.{LaneLine}
+use Rattle.vn_cells.specs.declared.script.Line.{Line}
+use Rattle.vn_cells.specs.declared.script.Line.TheVariants.{Cmd as Runs}
+use Rattle.vn_cells.specs.declared.script.Part.{Part}
+use Rattle.vn_cells.specs.declared.script.Part.TheVariants.{Phase}
+use Rattle.vn_cells.specs.declared.script.Script.{Script}
+use Rattle.vn_cells.specs.declared.world.World.{World}
+use Rattle.vn_cells.specs.Step.{opening, run_from}
+
+-- the events of a line, in the world where it begins
+unfoldable pub line_events : World → LaneLine → List Event
+line_events w line = by line.line
+  where
+    by : Line → List Event
+    by (Runs command) = Cmd line.lane line.path command ∷ []
+
+-- the events of lines, one line after another
+unfoldable pub lines_events : World → List LaneLine → List Event
+lines_events w [] = []
+lines_events w (line ∷ lines) = let events = line_events w line in events ++ lines_events (run_from w events) lines
+
+unfoldable pub part_events : World → Part → List Event
+part_events w (Phase lines) = lines_events w lines
+
+unfoldable pub parts_events : World → List Part → List Event
+parts_events w [] = []
+parts_events w (part ∷ parts) = let events = part_events w part in events ++ parts_events (run_from w events) parts
+
+-- the one history of the script whose lines are done in script order
+abbrev pub serial_run : Script → List Event
+serial_run script = parts_events opening script.parts
+
+-- a history is a schedule of a script that is run in script order
+abbrev pub IsSerialSchedule : Script → List Event → Type 0
+IsSerialSchedule script events = events ≡ serial_run script

@@ -1,0 +1,5 @@
+pub mod Interfaces
+pub mod Renamed
+pub mod Networks
+pub mod Construction
+pub mod Soundness

@@ -1,0 +1,74 @@
+-- What the parts of a stack keep among themselves, as tests.
+use Rattle.std.specs.Prelude.{ℕ, Bool, true, false, ◌==◌, ◌&&◌, not, List, [], ◌∷◌, Option, Some, None, count_by, if◌then◌else◌}
+use Rattle.std.specs.List.{list_any, list_all}
+use Rattle.vn_types.specs.declared.address.Ip4.{Ip4}
+use Rattle.vn_types.specs.declared.interface.IfOf.TheVariants.{Half}
+use Rattle.vn_rules.specs.declared.arp.ArpEntryOf.{ArpEntryOf}
+use Rattle.vn_rules.specs.declared.arp.ArpState.{ArpState}
+use Rattle.vn_rules.specs.declared.arp.ArpState.TheVariants.{Static, Incomplete, Learnt, Down}
+use Rattle.vn_rules.specs.declared.ping.PingOf.{PingOf}
+use Rattle.vn_rules.specs.declared.socket.SocketOf.{SocketOf}
+use Rattle.vn_rules.specs.declared.timer.TimerOf.{TimerOf}
+use Rattle.vn_rules.specs.declared.timer.TimerOf.TheVariants.{Arp, Ping}
+use Rattle.vn_rules.specs.declared.parts.PartsOf.{PartsOf}
+use Rattle.vn_rules.specs.Interfaces.{named_ifs, is_among}
+use Rattle.vn_rules.specs.Networks.{covers}
+
+module _ {N : Type 0} where
+  -- whether the address is one of the stack's
+  abbrev pub is_local : Ip4 → PartsOf N → Bool
+  is_local ip p = list_any (λ a. a.ip.0 == ip.0) p.addresses
+
+  abbrev pub is_bound_locally : PartsOf N → Option Ip4 → Bool
+  is_bound_locally p None = true
+  is_bound_locally p (Some ip) = is_local ip p
+
+  -- each socket's local address, where it is set, is one of the stack's
+  unfoldable pub binds_locally : PartsOf N → Bool
+  binds_locally p = list_all (λ (s : SocketOf N). is_bound_locally p s.ip) p.sockets
+
+  -- whether it is the timer of that awaited ping
+  abbrev pub is_timer_for : PingOf N → (ℕ × ℕ) × TimerOf N → Bool
+  is_timer_for ping (at, Arp half ip) = false
+  is_timer_for ping (at, Ping id arm) = (at.1 == ping.arm) && (arm == ping.arm) && (id == ping.id)
+
+  -- each awaited ping has its timer
+  unfoldable pub times_pings : PartsOf N → Bool
+  times_pings p = list_all (λ ping. list_any (is_timer_for ping) p.timers.standing) p.pings.awaited
+
+  -- no two awaited pings have one arm number
+  unfoldable pub has_distinct_arms : List (PingOf N) → Bool
+  has_distinct_arms [] = true
+  has_distinct_arms (ping ∷ pings) = not (list_any (λ (other : PingOf N). other.arm == ping.arm) pings) && has_distinct_arms pings
+
+module _ {N : Type 0} (same : N → N → Bool) where
+  -- each interface that the parts name is one of the stack's
+  unfoldable pub names_own : PartsOf N → Bool
+  names_own p = list_all (is_among same p.interfaces) (named_ifs p)
+
+  -- whether it is a timer of that ARP entry
+  abbrev pub is_timer_at : ArpEntryOf N → (ℕ × ℕ) × TimerOf N → Bool
+  is_timer_at e (at, Arp half ip) = same half e.half && (ip.0 == e.ip.0)
+  is_timer_at e (at, Ping id arm) = false
+
+  abbrev pub has_owner : PartsOf N → (ℕ × ℕ) × TimerOf N → Bool
+  has_owner p (at, Arp half ip) = list_any (λ e. is_timer_at e (at, Arp half ip)) p.arp
+  has_owner p (at, Ping id arm) = list_any (λ ping. is_timer_for ping (at, Ping id arm)) p.pings.awaited
+
+  -- each timer is that of an ARP entry or of an awaited ping
+  unfoldable pub owns_timers : PartsOf N → Bool
+  owns_timers p = list_all (has_owner p) p.timers.standing
+
+  abbrev pub timers_wanted : ArpState → ℕ
+  timers_wanted Static = 0
+  timers_wanted Incomplete = 1
+  timers_wanted Learnt = 1
+  timers_wanted Down = 1
+
+  -- each ARP entry has exactly one timer, a static one none
+  unfoldable pub times_arp : PartsOf N → Bool
+  times_arp p = list_all (λ (e : ArpEntryOf N). count_by (is_timer_at e) p.timers.standing == timers_wanted e.state) p.arp
+
+  -- each ARP entry's address is covered by an interface route of its half
+  unfoldable pub covers_arp : PartsOf N → Bool
+  covers_arp p = list_all (λ (e : ArpEntryOf N). covers same (Half e.half) e.ip p.routes) p.arp
