@@ -1,5 +1,5 @@
 -- What an event changes, closed sets, and the part of a history that is a set's own.
-use Rattle.std.specs.Prelude.{ℕ, Bool, true, false, ◌&&◌, ◌||◌, ◌==◌, List, [], ◌∷◌, ◌++◌, map, filter, not, IsTrue, if◌then◌else◌}
+use Rattle.std.specs.Prelude.{Bool, true, false, ◌&&◌, ◌||◌, ◌==◌, List, [], ◌∷◌, ◌++◌, map, filter, not, IsTrue, if◌then◌else◌}
 use Rattle.std.specs.List.{list_any, list_all}
 use Rattle.std.specs.Coded.{Coded, coded_option}
 use base.Stored.{Gv, gnil, gnum, gcons}
@@ -66,18 +66,18 @@ IsClosed set events = IsTrue (is_closed_from set opening events)
 
 -- ---- projection
 
--- an event that is common to all cells, and kept in each projection; no such event is built
+-- an event that is common to all cells, and kept in each project; no such event is built
 unfoldable pub is_common : Event → Bool
 is_common (Cmd lane path command) = false
 
 unfoldable pub is_kept : Cells → World → Event → Bool
 is_kept set w event = is_common event || touches set w event
 
-unfoldable pub projection_from : Cells → World → List Event → List Event
-projection_from set w [] = []
-projection_from set w (event ∷ events) =
-    if is_kept set w event then event ∷ projection_from set (step w event) events else projection_from set (step w event) events
+unfoldable pub project_from : Cells → World → List Event → List Event
+project_from set w [] = []
+project_from set w (event ∷ events) =
+    if is_kept set w event then event ∷ project_from set (step w event) events else project_from set (step w event) events
 
 -- the common events, and those that change a cell of the set
-abbrev pub projection : Cells → List Event → List Event
-projection set events = projection_from set opening events
+abbrev pub project : Cells → List Event → List Event
+project set events = project_from set opening events

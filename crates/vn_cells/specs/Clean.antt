@@ -1,6 +1,8 @@
 -- Clean histories: no table, queue or timer names an interface that stands elsewhere.
 use Rattle.std.specs.Prelude.{◌≡◌, ◌≢◌, ℕ, ◌≤◌, Bool, true, false, ◌&&◌, ◌==◌, List, [], ◌∷◌, ◌++◌, take, count_by, Option, Some, None, not, if◌then◌else◌}
-use Rattle.std.specs.List.{list_all, list_any}
+use Rattle.std.specs.List.{list_any}
+use Rattle.std.specs.List.Sorted.{IsStrictlySortedBy}
+use Rattle.std.specs.Map.{keys_of}
 use Rattle.std.specs.Option.{is_some, is_none, option_map}
 use Rattle.vn_types.specs.declared.interface.Side.{Side}
 use Rattle.vn_types.specs.declared.interface.IfOf.TheVariants.{Lo0, Half as OfHalf}
@@ -8,12 +10,12 @@ use Rattle.vn_types.specs.declared.half.Half.{Half}
 use Rattle.vn_types.specs.Interfaces.{side_eq}
 use Rattle.vn_rules.specs.declared.parts.PartsOf.{PartsOf}
 use Rattle.vn_rules.specs.Interfaces.{named_ifs, is_among, is_timer_of}
-use Rattle.vn_rules.specs.Soundness.{binds_locally, times_pings, has_distinct_arms, names_own, owns_timers, times_arp, covers_arp}
+use Rattle.vn_rules.specs.Soundness.{binds_locally, times_pings, gave_arms, has_distinct_arms, names_own, owns_timers, times_arp, has_distinct_entries, covers_arp, founds_routes}
 use Rattle.vn_cells.specs.declared.event.Event.{Event}
 use Rattle.vn_cells.specs.declared.world.Live.{Live}
 use Rattle.vn_cells.specs.declared.world.Pair.{Pair}
 use Rattle.vn_cells.specs.declared.world.World.{World}
-use Rattle.vn_cells.specs.Names.{Path, Key, If, path_eq, is_host, is_under, parent, half_eq, if_eq, key_of}
+use Rattle.vn_cells.specs.Names.{Path, Key, If, path_eq, is_host, is_under, parent, path_cmp, key_cmp, half_eq, if_eq, key_of}
 use Rattle.vn_cells.specs.World.{stack_at, pair_at, end_of}
 use Rattle.vn_cells.specs.Step.{run}
 
@@ -68,15 +70,18 @@ has_name unit side (OfHalf h) = (h.unit == unit) && side_eq h.side side
 abbrev pub keeps_timers : PartsOf Half → Bool
 keeps_timers p = owns_timers half_eq p && times_pings p
 
--- ARP entries have their timers and their routes, and awaited pings arm numbers of their own
-abbrev pub keeps_entries : PartsOf Half → Bool
-keeps_entries p = times_arp half_eq p && covers_arp half_eq p && has_distinct_arms p.pings.awaited
+-- ARP entries are one for each address and have their timers and routes, routes their addresses, and
+-- timers and awaited pings arm numbers of their own
+abbrev pub keeps_tables : PartsOf Half → Bool
+keeps_tables p =
+    has_distinct_entries half_eq p.arp && times_arp half_eq p && covers_arp half_eq p && founds_routes half_eq p && gave_arms p
+    && has_distinct_arms p.pings.awaited
 
 -- ---- what every world of a run keeps
 
 pub record IsStanding (parts : PartsAt) (pairs : PairAt) : Type 0 where
   -- each half stands in one living stack, its home or one below it
-  pub placed : (k : Key) (side : Side) → is_placed parts k side (pairs k) ≡ true
+  pub places : (k : Key) (side : Side) → is_placed parts k side (pairs k) ≡ true
   -- a living stack lists lo0 and exactly the halves that stand there, each once
   pub listed : (p : Path) (on : If) → count_by (if_eq on) (ifs_among (parts p)) ≡ times_listed parts pairs p on
   -- addresses, routes, ARP entries, awaited pings and queued datagrams name interfaces of their stack
@@ -101,9 +106,12 @@ pub record IsSound (w : World) : Type 0 where
   -- host lives, and so does the parent of each living path
   pub host : is_some (parts_at w []) ≡ true
   pub parents : (p : Path) → is_some (parts_at w p) ≡ true → is_some (parts_at w (parent p)) ≡ true
-  -- the entries that have timers are those that are to have them
-  pub entries : (p : Path) → passes keeps_entries (parts_at w p) ≡ true
+  -- the tables of each stack agree among themselves
+  pub tables : (p : Path) → passes keeps_tables (parts_at w p) ≡ true
   pub counted : (p : Path) → counts_right p (stack_at w p).live ≡ true
+  -- the lists are in order, and no key stands twice
+  pub stacks_ordered : IsStrictlySortedBy path_cmp (keys_of w.stacks)
+  pub pairs_ordered : IsStrictlySortedBy key_cmp (keys_of w.pairs)
 
 -- ---- after a move
 

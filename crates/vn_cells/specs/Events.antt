@@ -1,5 +1,5 @@
 -- Which events can happen: every number, text and path is within its bounds.
-use Rattle.std.specs.Prelude.{ℕ, ◌+◌, Bool, true, false, ◌&&◌, not, nat_le, nat_lt, List, length, IsTrue}
+use Rattle.std.specs.Prelude.{ℕ, ◌+◌, Bool, ◌&&◌, not, nat_le, nat_lt, List, length, IsTrue}
 use Rattle.std.specs.List.{list_all}
 use Rattle.vn_cells.specs.declared.command.Command.{Command}
 use Rattle.vn_cells.specs.declared.command.Command.TheVariants.{JailCreate}
@@ -20,9 +20,9 @@ is_valid_command issuer (JailCreate path children_max) = is_named_path issuer pa
 unfoldable pub is_valid_event : Event → Bool
 is_valid_event (Cmd lane path command) = is_lane lane && is_path path && is_valid_command path command
 
-abbrev pub is_valid : List Event → Bool
-is_valid events = list_all is_valid_event events
+abbrev pub IsValidEvent : Event → Type 0
+IsValidEvent event = IsTrue (is_valid_event event)
 
 -- every event of the history is valid
 abbrev pub IsValid : List Event → Type 0
-IsValid events = IsTrue (is_valid events)
+IsValid events = IsTrue (list_all is_valid_event events)

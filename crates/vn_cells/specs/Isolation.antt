@@ -8,7 +8,7 @@ use Rattle.vn_cells.specs.declared.world.World.{World}
 use Rattle.vn_cells.specs.World.{stack_at, pair_at}
 use Rattle.vn_cells.specs.Step.{run}
 use Rattle.vn_cells.specs.Sets.{in_set}
-use Rattle.vn_cells.specs.Changed.{IsClosed, projection}
+use Rattle.vn_cells.specs.Changed.{IsClosed, project}
 
 -- the cell is the same in both worlds, as a whole
 abbrev pub SameCell : World → World → CellName → Type 0
@@ -18,4 +18,4 @@ SameCell v w (OfPair home unit) = pair_at v (home, unit) ≡ pair_at w (home, un
 -- each cell of a closed set is that of a run of the set's own events alone
 abbrev pub IsIsolated : List Event → Type 0
 IsIsolated events =
-    (set : Cells) → IsClosed set events → (cell : CellName) → IsTrue (in_set set cell) → SameCell (run events) (run (projection set events)) cell
+    (set : Cells) → IsClosed set events → (cell : CellName) → IsTrue (in_set set cell) → SameCell (run events) (run (project set events)) cell

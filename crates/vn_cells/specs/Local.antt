@@ -7,7 +7,7 @@ use Rattle.vn_cells.specs.declared.world.Stack.{Stack}
 use Rattle.vn_cells.specs.declared.world.Pair.{Pair}
 use Rattle.vn_cells.specs.declared.world.World.{World}
 use Rattle.vn_cells.specs.Names.{Path, Key, key_of, key_cmp, halves_of}
-use Rattle.vn_cells.specs.Table.{find}
+use Rattle.vn_cells.specs.Table.{find, put}
 use Rattle.vn_cells.specs.World.{ifs_of, stack_at, pair_at, edit_stack, each_pair}
 
 -- what a local event gives: the acting stack, and the pairs that have a half there
@@ -27,9 +27,9 @@ local clock path stack pairs event = record { stack = stack; pairs = pairs }
 
 abbrev pub if_there : Key → Option Pair → List (Key × Pair) → List (Key × Pair)
 if_there k None pairs = pairs
-if_there k (Some pair) pairs = (k, pair) ∷ pairs
+if_there k (Some pair) pairs = put key_cmp k pair pairs
 
--- the pairs of some halves
+-- the pairs of some halves, each once
 unfoldable pub pairs_of : World → List Half → List (Key × Pair)
 pairs_of w [] = []
 pairs_of w (h ∷ hs) = if_there (key_of h) (pair_at w (key_of h)) (pairs_of w hs)

@@ -1,5 +1,5 @@
 -- Names of halves and of pairs, and the tests that tell them apart.
-use Rattle.std.specs.Prelude.{ℕ, Bool, true, false, ◌&&◌, ◌==◌, List, Option, Some, None}
+use Rattle.std.specs.Prelude.{Bool, ◌&&◌, ◌==◌, List, Option, Some, None}
 use Rattle.std.specs.List.{filter_map}
 use Rattle.vn_types.specs.declared.half.Half.{Half}
 use Rattle.vn_types.specs.declared.interface.IfOf.{IfOf}

@@ -34,6 +34,10 @@ parts_events w (part ∷ parts) = let events = part_events w part in events ++ p
 abbrev pub serial_run : Script → List Event
 serial_run script = parts_events opening script.parts
 
--- a history is a schedule of a script that is run in script order
-abbrev pub IsSerialSchedule : Script → List Event → Type 0
-IsSerialSchedule script events = events ≡ serial_run script
+-- how the lines of a phase are done: in script order
+pub data Mode : Type 0 where
+  InOrder : Mode
+
+-- whether a history is one that the script asks for
+abbrev pub IsSchedule : Mode → Script → List Event → Type 0
+IsSchedule InOrder script events = events ≡ serial_run script

@@ -1,5 +1,5 @@
 -- Sets of cells, and which cells decide an event.
-use Rattle.std.specs.Prelude.{ℕ, Bool, ◌&&◌, ◌||◌, ◌==◌, List, [], ◌∷◌, ◌++◌, map, if◌then◌else◌}
+use Rattle.std.specs.Prelude.{Bool, ◌&&◌, ◌||◌, ◌==◌, List, [], ◌∷◌, ◌++◌, map, if◌then◌else◌}
 use Rattle.std.specs.List.{list_any}
 use Rattle.vn_cells.specs.declared.cell.Cells.{Cells}
 use Rattle.vn_cells.specs.declared.cell.CellName.{CellName}

@@ -1,5 +1,5 @@
 -- One event of the machine, and a whole run.
-use Rattle.std.specs.Prelude.{ℕ, ◌+◌, Bool, List, [], ◌∷◌, ◌++◌, map, Option, Some, None, if◌then◌else◌}
+use Rattle.std.specs.Prelude.{ℕ, ◌+◌, List, [], ◌∷◌, ◌++◌, map, Option, Some, None, if◌then◌else◌}
 use Rattle.std.specs.List.{list_any}
 use Rattle.vn_types.specs.declared.half.Half.{Half}
 use Rattle.vn_types.specs.declared.errno.Errno.{Errno}
@@ -14,7 +14,6 @@ use Rattle.vn_cells.specs.declared.transcript.Outcome.{Outcome}
 use Rattle.vn_cells.specs.declared.transcript.Outcome.TheVariants.{Done, Refused}
 use Rattle.vn_cells.specs.declared.transcript.What.TheVariants.{Cmd as Ran, Init}
 use Rattle.vn_cells.specs.declared.world.Children.{Children}
-use Rattle.vn_cells.specs.declared.world.Live.{Live}
 use Rattle.vn_cells.specs.declared.world.Stack.{Stack}
 use Rattle.vn_cells.specs.declared.world.World.{World}
 use Rattle.vn_cells.specs.Names.{Path, path_eq, above}
@@ -60,12 +59,16 @@ effect clock issuer (JailCreate path children_max) w = created clock (issuer ++ 
 
 -- the entry of a command that was answered
 abbrev pub ran : ℕ → ℕ → Command → Outcome → Stack → Stack
-ran clock lane command outcome s = noting (record { clock = clock; what = Ran lane command outcome }) s
+ran clock lane command answer s = noting (record { clock = clock; what = Ran lane command answer }) s
+
+-- what a command that is not refused is answered
+unfoldable pub outcome : World → Path → Command → Outcome
+outcome w issuer (JailCreate path children_max) = Done
 
 -- a refused command has its entry alone, any other its effect and then its entry
 unfoldable pub answered : ℕ → ℕ → Path → Command → Option Errno → (World → World) → World → World
 answered clock lane issuer command (Some errno) doing w = edit_stack issuer (ran clock lane command (Refused errno)) w
-answered clock lane issuer command None doing w = edit_stack issuer (ran clock lane command Done) (doing w)
+answered clock lane issuer command None doing w = edit_stack issuer (ran clock lane command (outcome w issuer command)) (doing w)
 
 -- why a command is refused, at a path that lives or not
 abbrev pub refusal_at : World → Path → Command → Option Errno

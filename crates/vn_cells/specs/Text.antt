@@ -4,7 +4,7 @@ use Rattle.std.specs.List.{flat_map}
 use Rattle.std.specs.Fmt.{decimal}
 use Rattle.vn_types.specs.declared.address.Ip4.{Ip4}
 use Rattle.vn_types.specs.Paths.{path_text}
-use Rattle.vn_types.specs.Errors.{name_of, number_of}
+use Rattle.vn_types.specs.Errors.{errno_name, errno_number}
 use Rattle.vn_cells.specs.declared.command.Command.{Command}
 use Rattle.vn_cells.specs.declared.command.Command.TheVariants.{JailCreate}
 use Rattle.vn_cells.specs.declared.event.Event.{Event}
@@ -16,7 +16,6 @@ use Rattle.vn_cells.specs.declared.transcript.Outcome.{Outcome}
 use Rattle.vn_cells.specs.declared.transcript.Outcome.TheVariants.{Done, Refused, Value}
 use Rattle.vn_cells.specs.declared.transcript.What.{What}
 use Rattle.vn_cells.specs.declared.transcript.What.TheVariants.{Cmd, Open, Next, Close, Init, Uninit, Reply, Icmp, Timeout}
-use Rattle.vn_cells.specs.declared.world.Stack.{Stack}
 use Rattle.vn_cells.specs.declared.world.World.{World}
 use Rattle.vn_cells.specs.Names.{Path}
 use Rattle.vn_cells.specs.Step.{run}
@@ -49,7 +48,7 @@ command_text (JailCreate path children_max) = codes "jail -c name=" ++ path_text
 
 unfoldable pub outcome_text : Outcome → List ℕ
 outcome_text Done = codes "ok"
-outcome_text (Refused errno) = then_word (name_of errno) (decimal (number_of errno))
+outcome_text (Refused errno) = then_word (errno_name errno) (decimal (errno_number errno))
 outcome_text (Value text) = text
 
 -- a lane's event and its outcome

@@ -3,8 +3,6 @@ use Rattle.std.specs.Prelude.{ℕ, ◌+◌, Bool, List, [], ◌∷◌, ◌++◌,
 use Rattle.std.specs.Option.{option_map, is_some}
 use Rattle.vn_types.specs.declared.interface.Side.{Side}
 use Rattle.vn_types.specs.declared.interface.Side.TheVariants.{A, B}
-use Rattle.vn_types.specs.declared.half.Half.{Half}
-use Rattle.vn_rules.specs.declared.parts.PartsOf.{PartsOf}
 use Rattle.vn_cells.specs.declared.transcript.Entry.{Entry}
 use Rattle.vn_cells.specs.declared.world.End.{End}
 use Rattle.vn_cells.specs.declared.world.Pair.{Pair}

@@ -16,7 +16,7 @@ pub use command::{Command, Payload};
 pub use event::{Event, History};
 pub use report::{Report, SectionText, Watch};
 pub use script::{LaneLine, Line, Part, Script};
-pub use table::{ArpRow, IfAddr, IfRow, RouteRow, RowTarget, Rows, Table};
+pub use table::{ArpRow, IfRow, RouteRow, RowTarget, Rows, Table};
 pub use transcript::{Entry, Outcome, What};
 pub use vn_rules::ArpState;
 pub use world::{Children, End, Live, Pair, Reader, Stack, World};

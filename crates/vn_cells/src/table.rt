@@ -9,21 +9,15 @@ pub enum Table {
     Arp,
 }
 
-/// An address of a listed interface, with the length of its prefix in bits.
-#[derive(Clone, Copy, PartialEq, Eq)]
-pub struct IfAddr {
-    pub ip: Ip4,
-    pub len: u8,
-}
-
-/// A line of the interface table (ifconfig(8), `-a`). Only a half has a hardware address.
+/// A line of the interface table (ifconfig(8), `-a`). Only a half has a hardware address. An address
+/// stands with the length of its prefix in bits.
 #[derive(Drop)]
 pub struct IfRow {
     pub name: IfName,
     pub up: bool,
     pub mtu: u16,
     pub mac: Option<Mac>,
-    pub addrs: List<IfAddr>,
+    pub addrs: List<(Ip4, u8)>,
 }
 
 /// Where a listed route leads.

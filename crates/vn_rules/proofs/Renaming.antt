@@ -1,6 +1,6 @@
 -- Parts under other names: what they name is renamed, tests on names go through, and renamings compose.
-use Rattle.std.proofs.Common.{◌≡◌, ℕ, Bool, true, false, ◌||◌, List, [], ◌∷◌, ◌++◌, map, refl, sym, ap, ap₂, ◌∙◌}
-use Rattle.std.specs.List.{list_any, flat_map}
+use Rattle.std.proofs.Common.{◌≡◌, Bool, ◌||◌, List, [], ◌∷◌, ◌++◌, map, refl, sym, ap, ap₂, ◌∙◌}
+use Rattle.std.specs.List.{flat_map}
 use Rattle.std.proofs.lemmas.List.{map-append}
 use Rattle.vn_types.specs.declared.interface.IfOf.{IfOf}
 use Rattle.vn_types.specs.declared.interface.IfOf.TheVariants.{Lo0, Half}

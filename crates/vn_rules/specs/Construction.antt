@@ -1,5 +1,5 @@
 -- The rows of the constructor table, and what a stack has when they have run (VNET(9)).
-use Rattle.std.specs.Prelude.{ℕ, List, [], ◌∷◌, ◌++◌, map, codes}
+use Rattle.std.specs.Prelude.{ℕ, List, [], ◌∷◌, ◌++◌, codes}
 use Rattle.vn_types.specs.declared.address.Ip4.{Ip4}
 use Rattle.vn_types.specs.declared.interface.IfOf.TheVariants.{Lo0}
 use Rattle.vn_rules.specs.declared.route.TargetOf.TheVariants.{Link}

@@ -1,5 +1,5 @@
 -- The interfaces that a stack's parts name.
-use Rattle.std.specs.Prelude.{ℕ, Bool, true, false, ◌==◌, ◌&&◌, List, ◌++◌, map}
+use Rattle.std.specs.Prelude.{Bool, false, List, ◌++◌, map}
 use Rattle.std.specs.List.{list_any, flat_map}
 use Rattle.vn_types.specs.declared.interface.IfOf.{IfOf}
 use Rattle.vn_types.specs.declared.interface.IfOf.TheVariants.{Half}

@@ -1,5 +1,5 @@
 -- The same parts under other names of halves.
-use Rattle.std.specs.Prelude.{ℕ, List, map}
+use Rattle.std.specs.Prelude.{ℕ, map}
 use Rattle.vn_types.specs.Interfaces.{as_if}
 use Rattle.vn_rules.specs.declared.address.AddrOf.{AddrOf}
 use Rattle.vn_rules.specs.declared.route.RouteOf.{RouteOf}

@@ -1,8 +1,14 @@
 -- What the parts of a stack keep among themselves, as tests.
-use Rattle.std.specs.Prelude.{ℕ, Bool, true, false, ◌==◌, ◌&&◌, not, List, [], ◌∷◌, Option, Some, None, count_by, if◌then◌else◌}
+use Rattle.std.specs.Prelude.{ℕ, Bool, true, false, ◌==◌, ◌&&◌, not, nat_lt, List, [], ◌∷◌, Option, Some, None, count_by}
 use Rattle.std.specs.List.{list_any, list_all}
 use Rattle.vn_types.specs.declared.address.Ip4.{Ip4}
 use Rattle.vn_types.specs.declared.interface.IfOf.TheVariants.{Half}
+use Rattle.vn_types.specs.declared.address.Prefix.{Prefix}
+use Rattle.vn_types.specs.Interfaces.{if_same}
+use Rattle.vn_rules.specs.declared.address.AddrOf.{AddrOf}
+use Rattle.vn_rules.specs.declared.route.RouteOf.{RouteOf}
+use Rattle.vn_rules.specs.declared.route.TargetOf.{TargetOf}
+use Rattle.vn_rules.specs.declared.route.TargetOf.TheVariants.{Link, Gateway}
 use Rattle.vn_rules.specs.declared.arp.ArpEntryOf.{ArpEntryOf}
 use Rattle.vn_rules.specs.declared.arp.ArpState.{ArpState}
 use Rattle.vn_rules.specs.declared.arp.ArpState.TheVariants.{Static, Incomplete, Learnt, Down}
@@ -12,7 +18,7 @@ use Rattle.vn_rules.specs.declared.timer.TimerOf.{TimerOf}
 use Rattle.vn_rules.specs.declared.timer.TimerOf.TheVariants.{Arp, Ping}
 use Rattle.vn_rules.specs.declared.parts.PartsOf.{PartsOf}
 use Rattle.vn_rules.specs.Interfaces.{named_ifs, is_among}
-use Rattle.vn_rules.specs.Networks.{covers}
+use Rattle.vn_rules.specs.Networks.{lies_in, covers}
 
 module _ {N : Type 0} where
   -- whether the address is one of the stack's
@@ -32,9 +38,13 @@ module _ {N : Type 0} where
   is_timer_for ping (at, Arp half ip) = false
   is_timer_for ping (at, Ping id arm) = (at.1 == ping.arm) && (arm == ping.arm) && (id == ping.id)
 
-  -- each awaited ping has its timer
+  -- each awaited ping has its timer, and one alone
   unfoldable pub times_pings : PartsOf N → Bool
-  times_pings p = list_all (λ ping. list_any (is_timer_for ping) p.timers.standing) p.pings.awaited
+  times_pings p = list_all (λ ping. count_by (is_timer_for ping) p.timers.standing == 1) p.pings.awaited
+
+  -- each arm number was given before the next one
+  unfoldable pub gave_arms : PartsOf N → Bool
+  gave_arms p = list_all (λ e. nat_lt e.0.1 p.timers.armed) p.timers.standing
 
   -- no two awaited pings have one arm number
   unfoldable pub has_distinct_arms : List (PingOf N) → Bool
@@ -69,6 +79,19 @@ module _ {N : Type 0} (same : N → N → Bool) where
   unfoldable pub times_arp : PartsOf N → Bool
   times_arp p = list_all (λ (e : ArpEntryOf N). count_by (is_timer_at e) p.timers.standing == timers_wanted e.state) p.arp
 
+  -- no half has two ARP entries for one address
+  unfoldable pub has_distinct_entries : List (ArpEntryOf N) → Bool
+  has_distinct_entries [] = true
+  has_distinct_entries (e ∷ es) = not (list_any (λ (other : ArpEntryOf N). same other.half e.half && (other.ip.0 == e.ip.0)) es) && has_distinct_entries es
+
   -- each ARP entry's address is covered by an interface route of its half
   unfoldable pub covers_arp : PartsOf N → Bool
   covers_arp p = list_all (λ (e : ArpEntryOf N). covers same (Half e.half) e.ip p.routes) p.arp
+
+  -- an interface route has an address of its interface with that network, and a gateway is covered by an interface route of its half
+  abbrev pub is_founded : PartsOf N → Prefix → TargetOf N → Bool
+  is_founded p to (Link on) = list_any (λ (a : AddrOf N). if_same same a.on on && (a.len == to.len) && lies_in a.ip to) p.addresses
+  is_founded p to (Gateway via half) = covers same (Half half) via p.routes
+
+  unfoldable pub founds_routes : PartsOf N → Bool
+  founds_routes p = list_all (λ (r : RouteOf N). is_founded p r.to r.target) p.routes

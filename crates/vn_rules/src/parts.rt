@@ -33,7 +33,7 @@ pub struct PartsOf<N> {
     pub interfaces: List<IfOf<N>>,
     /// In order of adding.
     pub addresses: List<AddrOf<N>>,
-    /// In order of adding.
+    /// By network, then by length; no prefix stands twice.
     pub routes: List<RouteOf<N>>,
     /// In order of making.
     pub arp: List<ArpEntryOf<N>>,

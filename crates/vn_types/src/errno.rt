@@ -1,5 +1,5 @@
 ghost use Rattle.std.specs.Prelude.{◌≡◌};
-ghost use Rattle.vn_types.specs.Errors.{name_of, number_of};
+ghost use Rattle.vn_types.specs.Errors.{errno_name, errno_number};
 
 /// The error numbers that a command can answer (FreeBSD errno(2)).
 #[derive(Clone, Copy, PartialEq, Eq)]
@@ -28,7 +28,7 @@ pub enum Errno {
 impl Errno {
     /// The name of errno(2), as `EPERM`.
     pub fn name(self) -> &'static str
-        ensures { result.now ≡ name_of self }
+        ensures { result.now ≡ errno_name self }
     {
         match self {
             Errno::Perm => "EPERM",
@@ -55,7 +55,7 @@ impl Errno {
 
     /// The number of errno(2), as 1 for `EPERM`.
     pub fn number(self) -> u8
-        ensures { result ≡ number_of self }
+        ensures { result ≡ errno_number self }
     {
         match self {
             Errno::Perm => 1,

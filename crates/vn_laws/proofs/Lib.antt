@@ -1,0 +1,14 @@
+pub mod TableLaws
+pub mod OrderLaws
+pub mod NameLaws
+pub mod CellLaws
+pub mod Alike
+pub mod Created
+pub mod SoundSteps
+pub mod Touched
+pub mod AlikeStep
+pub mod Facts
+pub mod Isolated
+pub mod Reach
+pub mod RowTexts
+pub mod ClosedRows

@@ -1,0 +1,3 @@
+pub mod Relations
+pub mod Locality
+pub mod WorkedRows
