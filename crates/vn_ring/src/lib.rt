@@ -1,0 +1,9 @@
+//! A bounded queue of frames.
+#![tactic(auto)]
+
+mod ring;
+
+pub use ring::FrameRing;
+
+#[cfg(test)]
+mod tests;
