@@ -10,6 +10,7 @@ pub struct Reader {
 }
 
 /// The limit on a jail's living descendants, and their number (jail(8), `children.max` and `children.cur`).
+#[derive(Clone, Copy)]
 pub struct Children {
     pub limit: u32,
     pub living: u32,

@@ -10,7 +10,7 @@ use Rattle.vn_cells.specs.declared.world.Stack.{Stack}
 use Rattle.vn_cells.specs.declared.world.Pair.{Pair}
 use Rattle.vn_cells.specs.World.{no_stack, stack_at, pair_at, edit_stack, each_stack, add_pair, each_pair}
 use Rattle.vn_laws.proofs.TableLaws.{find-put, find-each}
-use Rattle.vn_laws.proofs.NameLaws.{key_eq-Decides}
+use Rattle.vn_types.proofs.PathNames.{key_eq-Decides}
 
 pub stack_at-edit_stack : (p : Path) (f : Stack → Stack) (w : World) (q : Path) → stack_at (edit_stack p f w) q ≡ (if path_eq q p then f (stack_at w q) else stack_at w q)
 unfolding stack_at edit_stack

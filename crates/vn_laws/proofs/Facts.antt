@@ -27,7 +27,7 @@ use Rattle.vn_cells.specs.Changed.{touches}
 use Rattle.vn_cells.specs.Clean.{IsSound, PairAt, counts_right}
 use Rattle.vn_laws.specs.Relations.{Belongs, owns_ifs, stands_inside}
 use Rattle.vn_laws.proofs.Alike.{and_first, and_second}
-use Rattle.vn_laws.proofs.NameLaws.{any-above, passes-above, under-parent}
+use Rattle.vn_types.proofs.Ancestors.{any-above, passes-above, under-parent}
 use Rattle.vn_laws.proofs.Created.{bumped, made, stack_at-created, stack_at-answered, stack_at-done, pair_at-answered, pair_at-effect}
 use Rattle.vn_laws.proofs.SoundSteps.{alive_parts, parent_alive, dead_before, refusal_at-None}
 use Rattle.vn_laws.proofs.Touched.{stack_stays, pair_stays}

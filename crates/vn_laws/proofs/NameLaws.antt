@@ -1,27 +1,15 @@
--- The tests on names tell them apart, and what the ancestors of a path are.
-use Rattle.std.proofs.Common.{◌∙◌, ◌≡◌, ◌==◌, ℕ, zero, suc, ◌≤◌, length, Bool, true, false, ◌&&◌, ◌||◌, not, List, [], ◌∷◌, ◌++◌, map, refl, ap, arith}
+-- The tests on names tell them apart.
+use Rattle.std.proofs.Common.{◌∙◌, ◌≡◌, ◌==◌, true, ◌&&◌, ap}
 use Rattle.std.specs.Bool.{Decides}
-use Rattle.std.specs.List.{list_any}
 use Rattle.std.specs.Ordering.{is_eq}
-use Rattle.std.specs.Str.{bytes_eq}
 use Rattle.std.proofs.lemmas.Bool.Decides.{Decides-eqb, Decides-and, Decides-like}
-use Rattle.std.proofs.lemmas.List.Folds.{list_any-append}
 use Rattle.vn_types.specs.declared.half.Half.{Half}
 use Rattle.vn_types.specs.declared.interface.Side.{Side}
-use Rattle.vn_types.specs.declared.interface.Side.TheVariants.{A, B}
 use Rattle.vn_types.specs.Interfaces.{side_eq}
-use Rattle.vn_types.specs.PathOrder.{path_eq-Decides, path_ties, key_ties}
-use Rattle.vn_cells.specs.Names.{Path, Key, path_eq, key_eq, path_cmp, key_cmp, half_eq, is_host, is_under, above, first_or_host, parent}
-
-pub key_eq-Decides : (a b : Key) → Decides (key_eq a b) (a ≡ b)
-unfolding key_eq
-key_eq-Decides a b = Decides-like (key_eq a b) (λ h i. (h.0 i, h.1 i)) (λ e. (ap (λ (k : Key). k.0) e, ap (λ (k : Key). k.1) e)) (Decides-and (path_eq a.0 b.0) (a.1 == b.1) (path_eq-Decides a.0 b.0) (Decides-eqb a.1 b.1))
-
-pub side_eq-Decides : (a b : Side) → Decides (side_eq a b) (a ≡ b)
-side_eq-Decides A A = (λ _. refl, λ _. refl)
-side_eq-Decides B B = (λ _. refl, λ _. refl)
-side_eq-Decides A B = (λ h. cc, λ h. cc)
-side_eq-Decides B A = (λ h. cc, λ h. cc)
+use Rattle.vn_types.specs.PathOrder.{path_ties, key_ties}
+use Rattle.vn_types.proofs.PathNames.{path_eq-Decides, key_eq-Decides}
+use Rattle.vn_types.proofs.InterfaceNames.{side_eq-Decides}
+use Rattle.vn_cells.specs.Names.{Path, Key, path_eq, path_cmp, key_cmp, half_eq}
 
 pub half_eq-Decides : (g h : Half) → Decides (half_eq g h) (g ≡ h)
 unfolding half_eq
@@ -35,120 +23,3 @@ same_path p q e = (path_eq-Decides p q).0 (path_ties p q ∙ e)
 
 pub same_key : (a b : Key) → is_eq (key_cmp a b) ≡ true → a ≡ b
 same_key a b e = (key_eq-Decides a b).0 (key_ties a b ∙ e)
-
-pub is_host-is : (p : Path) → is_host p ≡ true → p ≡ []
-unfolding is_host
-is_host-is [] h = refl
-is_host-is (x ∷ p) h = cc
-
-pub is_host-path_eq : (p : Path) → is_host p ≡ path_eq p []
-unfolding is_host path_eq
-is_host-path_eq [] = refl
-is_host-path_eq (x ∷ p) = refl
-
--- ---- one path under another
-
-pub is_under-host : (q : Path) → is_under q [] ≡ true
-unfolding is_under
-is_under-host [] = refl
-is_under-host (l ∷ q) = refl
-
-pub is_under-none : (x : List ℕ) (p : Path) → is_under [] (x ∷ p) ≡ false
-unfolding is_under
-is_under-none x p = refl
-
-pub is_under-cons : (l : List ℕ) (q : Path) (x : List ℕ) (p : Path) → is_under (l ∷ q) (x ∷ p) ≡ (bytes_eq x l && is_under q p)
-unfolding is_under
-is_under-cons l q x p = refl
-
--- ---- the proper ancestors other than host
-
-below_label : (x : List ℕ) (p : Path) (l : List ℕ) (ps : List Path) → list_any (path_eq (x ∷ p)) (map (λ r. l ∷ r) ps) ≡ (bytes_eq x l && list_any (path_eq p) ps)
-unfolding path_eq
-below_label x p l [] = grind arith
-below_label x p l (r ∷ ps) = grind (arith, below_label x p l ps)
-
-no_host_below : (l : List ℕ) (ps : List Path) → list_any (path_eq []) (map (λ r. l ∷ r) ps) ≡ false
-unfolding path_eq
-no_host_below l [] = refl
-no_host_below l (r ∷ ps) = no_host_below l ps
-
-own_label : (b : Bool) (p : Path) (under same any : Bool) → (is_host p ≡ true → under ≡ true) → (is_host p ≡ true → same ≡ false) → any ≡ (under && not (is_host p) && not same)
-    → ((b && any) || (b && path_eq p [])) ≡ ((b && under) && true && not (b && same))
-own_label b p under same any u s e = grind (arith, is_host-path_eq p)
-
--- they are what the path is under, but itself and host
-pub any-above : (q p : Path) → list_any (path_eq p) (above q) ≡ (is_under q p && not (is_host p) && not (path_eq p q))
-unfolding above path_eq is_host is_under
-any-above [] [] = refl
-any-above [] (x ∷ p) = refl
-any-above (l ∷ []) [] = refl
-any-above (l ∷ []) (x ∷ []) = grind arith
-any-above (l ∷ []) (x ∷ y ∷ p) = grind arith
-any-above (l ∷ n ∷ q) [] = list_any-append (path_eq []) (map (λ r. l ∷ r) (above (n ∷ q))) ((l ∷ []) ∷ []) ∙ ap (λ b. b || false) (no_host_below l (above (n ∷ q)))
-any-above (l ∷ n ∷ q) (x ∷ p) =
-    list_any-append (path_eq (x ∷ p)) (map (λ r. l ∷ r) (above (n ∷ q))) ((l ∷ []) ∷ [])
-    ∙ ap (λ b. b || ((bytes_eq x l && path_eq p []) || false)) (below_label x p l (above (n ∷ q)))
-    ∙ ap (λ b. (bytes_eq x l && list_any (path_eq p) (above (n ∷ q))) || b) (or_false (bytes_eq x l && path_eq p []))
-    ∙ own_label (bytes_eq x l) p (is_under (n ∷ q) p) (path_eq p (n ∷ q)) (list_any (path_eq p) (above (n ∷ q))) (top p) (new p) (any-above (n ∷ q) p)
-  where
-    or_false : (b : Bool) → (b || false) ≡ b
-    or_false true = refl
-    or_false false = refl
-
-    top : (p : Path) → is_host p ≡ true → is_under (n ∷ q) p ≡ true
-    top [] h = refl
-    top (y ∷ p) h = cc
-
-    new : (p : Path) → is_host p ≡ true → path_eq p (n ∷ q) ≡ false
-    new [] h = refl
-    new (y ∷ p) h = cc
-
--- ---- the parent
-
-parent-cons : (l n : List ℕ) (q : Path) → parent (l ∷ n ∷ q) ≡ l ∷ parent (n ∷ q)
-unfolding above
-parent-cons l n q = by (above (n ∷ q))
-  where
-    by : (ps : List Path) → first_or_host (map (λ r. l ∷ r) ps ++ (l ∷ []) ∷ []) ≡ l ∷ first_or_host ps
-    by [] = refl
-    by (p ∷ ps) = refl
-
--- a path that is above another is its parent, or above that
-pub under-parent : (q p : Path) → is_under q p ≡ true → path_eq p q ≡ false → is_under (parent q) p ≡ true
-unfolding path_eq is_under
-under-parent [] [] u e = cc
-under-parent [] (x ∷ p) u e = cc
-under-parent (l ∷ q) [] u e = is_under-host (parent (l ∷ q))
-under-parent (l ∷ []) (x ∷ []) u e = absurd (no u e)
-  where
-    no : (bytes_eq x l && true) ≡ true → (bytes_eq x l && true) ≡ false → ⊥
-    no u e = cc
-under-parent (l ∷ []) (x ∷ y ∷ p) u e = grind arith
-under-parent (l ∷ n ∷ q) (x ∷ p) u e = ap (λ r. is_under r (x ∷ p)) (parent-cons l n q) ∙ grind (arith, under-parent (n ∷ q) p, u, e)
-
-length-parent : (l : List ℕ) (q : Path) → length (parent (l ∷ q)) ≡ length q
-unfolding above
-length-parent l [] = refl
-length-parent l (n ∷ q) = ap length (parent-cons l n q) ∙ ap (λ k. suc k) (length-parent n q)
-
--- what the parent of each path that passes passes too, each path above it passes
-module _ (passes : Path → Bool) (parents : (q : Path) → passes q ≡ true → passes (parent q) ≡ true) where
-  by_parent : (q p : Path) (b : Bool) → path_eq p q ≡ b → passes q ≡ true → (path_eq p q ≡ false → passes p ≡ true) → passes p ≡ true
-  by_parent q p true e h more = ap passes ((path_eq-Decides p q).0 e) ∙ h
-  by_parent q p false e h more = more e
-
-  host_above : (p : Path) → is_under [] p ≡ true → path_eq p [] ≡ true
-  unfolding path_eq is_under
-  host_above [] u = refl
-  host_above (x ∷ p) u = cc
-
-  up : (n : ℕ) (q p : Path) → length q ≤ n → passes q ≡ true → is_under q p ≡ true → passes p ≡ true
-  up n [] p few h u = ap passes ((path_eq-Decides p []).0 (host_above p u)) ∙ h
-  up zero (l ∷ q) p few h u = absurd (omega arith)
-  up (suc n) (l ∷ q) p few h u =
-      by_parent (l ∷ q) p (path_eq p (l ∷ q)) refl h
-      (λ e. up n (parent (l ∷ q)) p (omega (arith, length-parent l q)) (parents (l ∷ q) h) (under-parent (l ∷ q) p u e))
-
-  pub passes-above : (q p : Path) → passes q ≡ true → is_under q p ≡ true → passes p ≡ true
-  passes-above q p h u = up (length q) q p (omega arith) h u

@@ -28,7 +28,7 @@ use Rattle.vn_cells.specs.Sets.{in_set, in_stacks}
 use Rattle.vn_cells.specs.Changed.{same, stack_code, differs, changed, touches, is_common, is_kept, project_from}
 use Rattle.vn_laws.specs.Locality.{ChangesNear, AddsEntry, MakesJail, path_of}
 use Rattle.vn_laws.proofs.CellLaws.{stack_at-edit_stack, stack_at-each_pair, pair_at-edit_stack, pair_at-each_pair, clock-edit_stack, clock-each_pair}
-use Rattle.vn_laws.proofs.NameLaws.{any-above}
+use Rattle.vn_types.proofs.Ancestors.{any-above}
 use Rattle.vn_laws.proofs.Created.{bumped, made, stack_at-created, stack_at-answered, stack_at-done, pair_at-step}
 use Rattle.vn_laws.proofs.SoundSteps.{dead_before, refusal_at-None}
 use Rattle.vn_laws.proofs.Isolated.{clock-step}

@@ -36,7 +36,7 @@ use Rattle.vn_cells.specs.Step.{one_more_below, one_more_in, created, ran, const
 use Rattle.vn_cells.specs.Clean.{PartsAt, PairAt, parts_at, ifs_among, passes, place, stands_at, is_placed, times_listed, has_name, keeps_timers, keeps_tables, IsStanding, counts_right, IsSound, LeavesNothing, IsClean}
 use Rattle.vn_laws.proofs.OrderLaws.{sorted-put, keys_of-each}
 use Rattle.vn_laws.proofs.Alike.{and_first, and_second}
-use Rattle.vn_laws.proofs.NameLaws.{is_host-is, is_host-path_eq}
+use Rattle.vn_types.proofs.Ancestors.{is_host-is, is_host-path_eq}
 use Rattle.vn_laws.proofs.Created.{bumped, made, stack_at-created, stack_at-answered, stack_at-done, with_new, parts_at-created, parts_at-refused, parts_at-done, pair_at-answered, pair_at-effect, pair_at-created, pair_at-step}
 
 -- ---- a stack that was just constructed
@@ -144,6 +144,9 @@ module _ (w : World) (p : Path) (none : creation_refusal w p ≡ None) where
 
   pub dead_before : is_alive w p ≡ false
   dead_before = conditions.1
+
+  pub none_full : any_full w (above p) ≡ false
+  none_full = conditions.2
 
 pub alive_parts : (w : World) (p : Path) → is_some (parts_at w p) ≡ is_alive w p
 alive_parts w p = by (stack_at w p).live

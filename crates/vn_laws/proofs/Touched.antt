@@ -23,7 +23,7 @@ use Rattle.vn_cells.specs.Step.{step}
 use Rattle.vn_cells.specs.Sets.{in_set, in_stacks, in_pairs}
 use Rattle.vn_cells.specs.Changed.{same_tree, same, stack_code, pair_code, differs, listed, changed, touches}
 use Rattle.vn_laws.proofs.TableLaws.{found-put_all}
-use Rattle.vn_laws.proofs.NameLaws.{key_eq-Decides}
+use Rattle.vn_types.proofs.PathNames.{key_eq-Decides}
 use Rattle.vn_laws.proofs.Alike.{and_first, and_second, and_both}
 
 -- ---- values are told apart by their codes

@@ -6,3 +6,4 @@ pub mod InterfaceNames
 pub mod PerStackLaws
 pub mod Assembling
 pub mod ListMaps
+pub mod Ancestors

@@ -1,4 +1,4 @@
-ghost use Rattle.std.specs.Prelude.{◌≡◌, [], ◌++◌, ◌∷◌, ◌==◌, length, OnOk, OnErr};
+ghost use Rattle.std.specs.Prelude.{◌≡◌, [], ◌++◌, ◌∷◌, ◌==◌, length, IfOk, OnOk, OnErr};
 
 use crate::memory::NoMemory;
 use std::alloc::Global;
@@ -25,6 +25,16 @@ impl<T> List<T> {
     {
         List {
             items: Vec::new(alloc),
+        }
+    }
+
+    /// The empty list, with room for so many elements.
+    pub fn with_capacity(alloc: Global, capacity: usize) -> Result<List<T>, NoMemory>
+        ensures { IfOk result (λ l. l ≡ []) }
+    {
+        match Vec::with_capacity(alloc, capacity) {
+            Ok(items) => Ok(List { items }),
+            Err(_) => Err(NoMemory),
         }
     }
 

@@ -1,6 +1,8 @@
 ghost use Rattle.std.specs.Prelude.{◌≡◌, ◌↔◌, ◌+◌, ◌≤◌, List, ℕ, [], IsTrue, ◌++◌, ◌∷◌, length, IfOk, OnOk, Some, true, refl};
 ghost use Rattle.std.specs.Cmp.{partial_equiv_from_equiv};
-ghost use Rattle.vn_types.specs.Paths.{path_eq, path_cmp, path_text, glued, is_path, is_under};
+ghost use Rattle.vn_types.specs.Paths.{path_eq, path_cmp, path_text, glued, joined, is_path, is_under, parent};
+ghost use Rattle.std.specs.List.{list_all};
+ghost use Rattle.vn_types.specs.Words.{is_label};
 ghost use Rattle.vn_types.specs.PathTexts.{IsSpelt};
 ghost use Rattle.vn_types.specs.PathWords.{text_order};
 ghost use Rattle.vn_types.specs.PathOrder.{path_total, path_equiv, path_po, path_ties};
@@ -112,6 +114,19 @@ impl Path {
         Ok(Path { labels, text })
     }
 
+    /// The path above it, which is host for a path of one label and for host.
+    pub fn parent(&self) -> Result<Path, NoMemory>
+        ensures { IfOk result (λ p. p ≡ parent self.now) }
+    {
+        let alloc = *self.labels.allocator();
+        let above = self.labels.len().saturating_sub(1);
+        let (above, _) = self.labels.as_slice().split_at(above);
+        let mut labels = Vec::new(alloc);
+        push_copies(&mut labels, above)?;
+        let text = join_labels(alloc, above)?;
+        Ok(Path { labels, text })
+    }
+
     /// The number of labels.
     #[tactic(auto, using(crate::specs::PathTexts::few_labels))]
     pub fn depth(&self) -> u64
@@ -164,6 +179,18 @@ fn glue(alloc: Global, first: &[u8], second: &[u8]) -> Result<Octets, NoMemory>
     let mut text = Octets::from_slice(alloc, first)?;
     text.extend(b".")?;
     text.extend(second)?;
+    Ok(text)
+}
+
+/// The labels with dots between.
+fn join_labels(alloc: Global, labels: &[Label]) -> Result<Octets, NoMemory>
+    requires { list_all is_label labels.now ≡ true }
+    ensures { IfOk result (λ t. t ≡ joined labels.now) }
+{
+    let mut text = Octets::new(alloc);
+    for label in labels {
+        text = glue(alloc, text.as_slice(), label.text())?;
+    }
     Ok(text)
 }
 
