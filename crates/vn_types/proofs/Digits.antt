@@ -1,16 +1,17 @@
 -- The decimal digits of a number, and the number that they spell.
-use Rattle.std.proofs.Common.{◌≡◌, ◌≢◌, ℕ, zero, suc, ◌<◌, ◌≤◌, ◌+◌, ◌^◌, Bool, true, false, cond, ◌&&◌, List, [], ◌∷◌, length, get_or, Option, Some, None, Result, Ok, Err, refl, sym, ap, ◌∙◌, arith}
+use Rattle.std.proofs.Common.{◌==◌, ◌≡◌, not, ◌≢◌, ℕ, zero, suc, ◌<◌, ◌≤◌, ◌+◌, ◌^◌, Bool, true, false, cond, ◌&&◌, List, [], ◌∷◌, length, get_or, Option, Some, None, Result, Ok, Err, refl, sym, ap, ◌∙◌, arith}
 use Rattle.std.specs.Prelude.{nat_le, decimal, IfSome}
 use Rattle.std.specs.Result.{result_ok, OkIff}
 use Rattle.std.specs.Char.{is_ascii_digit}
 use Rattle.std.specs.List.{list_all}
 use Rattle.std.specs.Str.{all_ascii_digits, IsUtf8}
 use Rattle.std.specs.Str.Parse.{digits_value, ParsesUnsigned}
-use Rattle.std.proofs.lemmas.Bool.{and_parts}
+use Rattle.std.proofs.lemmas.Bool.{and_parts, and_from, eqb-true, true≢false}
 use Rattle.std.proofs.lemmas.Bool.Decides.{nat_tests}
 use Rattle.std.proofs.lemmas.Str.{IsUtf8-from_ascii}
 use Rattle.std.proofs.lemmas.Str.Parse.{IsNumeralModel, numerals_by_value, tells_all_ascii_digits, parse_digits}
 use Rattle.std.proofs.lemmas.Fmt.{IsAscii-from_digits, digits_decimal, digits_value-decimal, decimal-digits_value, decimal_nonempty, first_decimal, decimal_digit}
+use Rattle.vn_types.proofs.Options.{none_some}
 use Rattle.vn_types.specs.NumberWords.{is_numeral, number_up_to, number_of}
 
 digits_all : (t : List ℕ) → list_all is_ascii_digit t ≡ all_ascii_digits t
@@ -52,14 +53,8 @@ number_parts most t n h = by (is_numeral t) (nat_le (digits_value 10 t) most) re
   where
     by : (a b : Bool) → is_numeral t ≡ a → nat_le (digits_value 10 t) most ≡ b → cond (a && b) (Some (digits_value 10 t)) None ≡ Some n → (is_numeral t ≡ true) × (digits_value 10 t ≡ n) × (n ≤ most)
     by true true e f g = let s : digits_value 10 t ≡ n = cc in (e, s, grind (arith, nat_tests))
-    by true false e f g = absurd (none g)
-      where
-        none : ◌≡◌ {A = Option ℕ} None (Some n) → ⊥
-        none e = cc
-    by false b e f g = absurd (none g)
-      where
-        none : ◌≡◌ {A = Option ℕ} None (Some n) → ⊥
-        none e = cc
+    by true false e f g = absurd (none_some _ g)
+    by false b e f g = absurd (none_some _ g)
 
 -- what reads as a number is the number's own text
 pub decimal-number : (most : ℕ) (t : List ℕ) (n : ℕ) → most < 2 ^ 64 → number_up_to most t ≡ Some n → decimal n ≡ t
@@ -106,3 +101,44 @@ pub canonical_number : (t : List ℕ) (o : Option ℕ) → o ≡ number_of t →
 unfolding number_of
 canonical_number t None e = tt
 canonical_number t (Some n) e = decimal-number 18446744073709551615 t n (omega arith) (sym e)
+
+-- ---- a number within a bound
+
+numeral_number : (most : ℕ) (t : List ℕ) (n : ℕ) → number_up_to most t ≡ Some n → (more : ℕ) → n ≤ more → number_up_to more t ≡ Some n
+unfolding number_up_to
+numeral_number most t n h more le = let p = number_parts most t n h in rw (p.0, p.1) (grind (arith, nat_tests))
+
+pub number_within : (most n : ℕ) (t : List ℕ) → Some n ≡ number_of t → n ≤ most → Some n ≡ number_up_to most t
+unfolding number_of
+number_within most n t h le = sym (numeral_number 18446744073709551615 t n (sym h) most le)
+
+pub number_beyond : (most n : ℕ) (t : List ℕ) → Some n ≡ number_of t → most < n → None ≡ number_up_to most t
+unfolding number_of number_up_to
+number_beyond most n t h lt = let p = number_parts 18446744073709551615 t n (sym h) in rw (p.0, p.1) (grind (arith, nat_tests))
+
+pub number_nowhere : (most : ℕ) (t : List ℕ) → None ≡ number_of t → most < 2 ^ 64 → None ≡ number_up_to most t
+unfolding number_of
+number_nowhere most t h small = by (number_up_to most t) refl
+  where
+    by : (o : Option ℕ) → number_up_to most t ≡ o → None ≡ o
+    by None e = refl
+    by (Some n) e = let there : number_up_to 18446744073709551615 t ≡ Some n = numeral_number most t n e 18446744073709551615 (omega (arith, (number_parts most t n e).2)) in cc
+
+-- ---- no octet but a digit stands in a number's text
+
+pub digits_lack : (c : ℕ) (ds : List ℕ) → is_ascii_digit c ≡ false → list_all is_ascii_digit ds ≡ true → list_all (λ d. not (d == c)) ds ≡ true
+digits_lack c [] other h = refl
+digits_lack c (d ∷ ds) other h = let p = and_parts (is_ascii_digit d) (list_all is_ascii_digit ds) h in and_from _ _ (apart p.0) (digits_lack c ds other p.1)
+  where
+    apart : is_ascii_digit d ≡ true → not (d == c) ≡ true
+    apart e = by (d == c) refl
+      where
+        by : (b : Bool) → (d == c) ≡ b → not b ≡ true
+        by false f = refl
+        by true f = let same : d ≡ c = eqb-true d c f in absurd (true≢false (sym e ∙ ap is_ascii_digit same ∙ other))
+
+pub decimal_lacks : (c n : ℕ) → is_ascii_digit c ≡ false → n < 2 ^ 64 → list_all (λ d. not (d == c)) (decimal n) ≡ true
+decimal_lacks c n other h = digits_lack c (decimal n) other (digits_all (decimal n) ∙ digits_decimal own n h)
+
+pub number_lacks : (most : ℕ) (t : List ℕ) (n c : ℕ) → is_ascii_digit c ≡ false → number_up_to most t ≡ Some n → list_all (λ d. not (d == c)) t ≡ true
+number_lacks most t n c other h = digits_lack c t other (digits_all t ∙ (numeral_text t (number_parts most t n h).0).digits)

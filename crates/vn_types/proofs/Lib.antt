@@ -1,3 +1,4 @@
+pub mod Options
 pub mod Digits
 pub mod Cuts
 pub mod PathReading
@@ -7,3 +8,8 @@ pub mod PerStackLaws
 pub mod Assembling
 pub mod ListMaps
 pub mod Ancestors
+pub mod AddressReading
+pub mod Putting
+pub mod MacReading
+pub mod InterfaceReading
+pub mod HalfReading

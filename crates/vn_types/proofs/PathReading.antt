@@ -1,5 +1,5 @@
 -- A path's text reads as the path, and a path that was read has the text.
-use Rattle.std.proofs.Common.{◌≡◌, ℕ, ◌<◌, Bool, true, false, cond, ◌&&◌, ◌==◌, List, [], ◌∷◌, ◌++◌, length, Option, Some, None, refl, sym, ap, ap₂, ◌∙◌, arith, length-append}
+use Rattle.std.proofs.Common.{◌≡◌, ℕ, ◌<◌, Bool, true, false, cond, ◌&&◌, ◌==◌, List, [], ◌∷◌, ◌++◌, length, Some, None, refl, sym, ap, ap₂, ◌∙◌, arith, length-append}
 use Rattle.std.specs.Prelude.{nat_le, nat_lt, codes}
 use Rattle.std.specs.List.{list_all, slice_split, onto_first}
 use Rattle.std.specs.Bool.{OnTrue}
@@ -11,6 +11,7 @@ use Rattle.std.proofs.lemmas.Bool.{false_from_ne_true, OnTrue_at}
 use Rattle.std.proofs.lemmas.Bool.Decides.{nat_tests, Decides-eqb}
 use Rattle.std.proofs.lemmas.List.Folds.{list_all-append}
 use Rattle.std.proofs.lemmas.Slice.Eq.{bytes_eq-Decides}
+use Rattle.vn_types.proofs.Options.{none_some}
 use Rattle.vn_types.specs.Words.{is_label}
 use Rattle.vn_types.specs.Paths.{Path, is_path, joined, path_text, path_cmp}
 use Rattle.vn_types.specs.PathTexts
@@ -87,6 +88,10 @@ unfolding path_text
 labels_text [] h = absurd (omega arith)
 labels_text (label ∷ labels) h = refl
 
+is_path-host : is_path [] ≡ true
+unfolding is_path
+is_path-host = refl
+
 -- ---- what reads as a path
 read_host : path_of (codes "host") ≡ Some []
 unfolding path_of
@@ -141,13 +146,20 @@ pub path_text-path_of : (t : List ℕ) (p : Path) → path_of t ≡ Some p → p
 unfolding path_of labels_of
 path_text-path_of t p h = by (bytes_eq t (codes "host")) (is_path (pieces t)) refl h
   where
-    no : ◌≡◌ {A = Option Path} None (Some p) → ⊥
-    no e = cc
-
     by : (a b : Bool) → bytes_eq t (codes "host") ≡ a → cond a (Some []) (cond b (Some (pieces t)) None) ≡ Some p → path_text p ≡ t
     by true b e f = let s : [] ≡ p = cc in rw (← s) (path_text-host ∙ sym ((bytes_eq-Decides t (codes "host")).0 e))
     by false true e f = let s : pieces t ≡ p = cc in rw (← s) (path_text-joined (pieces t) (some_piece t) ∙ joined-pieces t)
-    by false false e f = absurd (no f)
+    by false false e f = absurd (none_some _ f)
+
+-- only a path is read
+pub is_path-path_of : (t : List ℕ) (p : Path) → path_of t ≡ Some p → is_path p ≡ true
+unfolding path_of labels_of
+is_path-path_of t p h = by (bytes_eq t (codes "host")) (is_path (pieces t)) refl h
+  where
+    by : (a b : Bool) → is_path (pieces t) ≡ b → cond a (Some []) (cond b (Some (pieces t)) None) ≡ Some p → is_path p ≡ true
+    by true b e f = let s : [] ≡ p = cc in rw (← s) is_path-host
+    by false true e f = let s : pieces t ≡ p = cc in rw (← s) e
+    by false false e f = absurd (none_some _ f)
 
 -- no path but host has its text
 host_pieces : pieces (codes "host") ≡ codes "host" ∷ []

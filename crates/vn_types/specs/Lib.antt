@@ -1,4 +1,5 @@
 pub mod Words
+pub mod Steps
 pub mod NumberWords
 pub mod NameWords
 pub mod OctetOrder
@@ -10,3 +11,6 @@ pub mod Interfaces
 pub mod PerStack
 pub mod Assembled
 pub mod Errors
+pub mod AddressWords
+pub mod InterfaceWords
+pub mod HalfWords

@@ -1,7 +1,7 @@
 ghost use Rattle.std.specs.Prelude.{◌≡◌, IfOk, true};
 ghost use Rattle.std.specs.List.{list_all};
-ghost use Rattle.vn_types.specs.Words.{is_name, is_name_octet, is_sock_name};
-ghost use Rattle.vn_types.specs.NameWords.{name_of};
+ghost use Rattle.vn_types.specs.Words.{is_name, is_name_octet, is_sock_name, is_letter_or_digit};
+ghost use Rattle.vn_types.specs.NameWords.{name_of, sock_name_of};
 
 use crate::memory::NoMemory;
 use crate::octets::Octets;
@@ -77,6 +77,18 @@ impl Name {
 }
 
 impl SockName {
+    /// The name that a text is.
+    #[tactic(auto, unfolding(crate::specs::NameWords::sock_name_of))]
+    pub fn read(alloc: Global, text: &[u8]) -> Result<Option<SockName>, NoMemory>
+        ensures { IfOk result (λ r. r ≡ sock_name_of text.now) }
+    {
+        if !is_sock_name(text) {
+            return Ok(None);
+        }
+        let text = Octets::from_slice(alloc, text)?;
+        Ok(Some(SockName { text }))
+    }
+
     /// The octets of the name.
     pub fn text(&self) -> &[u8]
         ensures text { result.now ≡ self.now }
@@ -116,4 +128,28 @@ fn is_name_octet(c: u8) -> bool
     ensures { result ≡ is_name_octet c }
 {
     c.is_ascii_lowercase() || c.is_ascii_digit() || c == b'_' || c == b'.'
+}
+
+#[tactic(auto, unfolding(crate::specs::Words::is_sock_name))]
+fn is_sock_name(text: &[u8]) -> bool
+    ensures { result ≡ is_sock_name text.now }
+{
+    match text {
+        [first, rest @ ..] => {
+            first.is_ascii_lowercase() && are_letters_or_digits(rest) && rest.len() <= 15
+        }
+        [] => false,
+    }
+}
+
+fn are_letters_or_digits(text: &[u8]) -> bool
+    ensures { result ≡ list_all is_letter_or_digit text.now }
+{
+    text.iter().all(|c| is_letter_or_digit(*c))
+}
+
+fn is_letter_or_digit(c: u8) -> bool
+    ensures { result ≡ is_letter_or_digit c }
+{
+    c.is_ascii_lowercase() || c.is_ascii_digit()
 }

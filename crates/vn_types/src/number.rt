@@ -36,3 +36,31 @@ fn is_numeral(text: &[u8]) -> bool
         [first, ..] => *first != b'0' && are_digits(text),
     }
 }
+
+/// The number that a text spells, where it is not above a bound.
+#[tactic(auto, using(crate::proofs::Digits::number_within, crate::proofs::Digits::number_beyond, crate::proofs::Digits::number_nowhere))]
+pub(crate) fn read_up_to(text: &[u8], most: u64) -> Option<u64>
+    ensures number { result ≡ number_up_to most text.now }
+    ensures bound { IfSome result (λ n. n ≤ most) }
+{
+    match read_number(text) {
+        Some(number) => { if number <= most { Some(number) } else { None } }
+        None => None,
+    }
+}
+
+/// A number that fits an octet.
+pub(crate) fn read_octet(text: &[u8]) -> Option<u8>
+    ensures { result ≡ number_up_to 255 text.now }
+{
+    let number = read_up_to(text, 255)?;
+    Some(number as u8)
+}
+
+/// A number that fits 32 bits.
+pub(crate) fn read_unit(text: &[u8]) -> Option<u32>
+    ensures { result ≡ number_up_to 4294967295 text.now }
+{
+    let number = read_up_to(text, 4_294_967_295)?;
+    Some(number as u32)
+}
