@@ -11,3 +11,4 @@ pub mod Isolation
 pub mod Clean
 pub mod Schedule
 pub mod Text
+pub mod Reports

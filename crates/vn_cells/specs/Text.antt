@@ -1,8 +1,8 @@
 -- The text of a run: each stack's transcript, the readers and versions left, and the history.
-use Rattle.std.specs.Prelude.{ℕ, ◌/◌, ◌%◌, ◌^◌, ◌==◌, List, [], ◌∷◌, ◌++◌, codes, if◌then◌else◌}
+use Rattle.std.specs.Prelude.{ℕ, ◌==◌, List, [], ◌∷◌, ◌++◌, codes, if◌then◌else◌}
 use Rattle.std.specs.List.{flat_map}
 use Rattle.std.specs.Fmt.{decimal}
-use Rattle.vn_types.specs.declared.address.Ip4.{Ip4}
+use Rattle.vn_types.specs.AddressWords.{ip4_text}
 use Rattle.vn_types.specs.Paths.{path_text}
 use Rattle.vn_types.specs.Errors.{errno_name, errno_number}
 use Rattle.vn_cells.specs.declared.command.Command.{Command}
@@ -27,9 +27,6 @@ line text = text ++ 10 ∷ []
 -- two texts with a space between
 abbrev pub then_word : List ℕ → List ℕ → List ℕ
 then_word text word = text ++ 32 ∷ word
-
-abbrev pub ip_text : Ip4 → List ℕ
-ip_text ip = decimal (ip.0 / 2 ^ 24) ++ 46 ∷ decimal (ip.0 / 2 ^ 16 % 256) ++ 46 ∷ decimal (ip.0 / 2 ^ 8 % 256) ++ 46 ∷ decimal (ip.0 % 256)
 
 abbrev pub table_text : Table → List ℕ
 table_text If = codes "if"
@@ -62,9 +59,9 @@ what_text (Next lane outcome) = lane_text lane (codes "next") outcome
 what_text (Close lane outcome) = lane_text lane (codes "close") outcome
 what_text (Init name) = codes "- init " ++ name
 what_text (Uninit name) = codes "- uninit " ++ name
-what_text (Reply ip id ttl bytes) = codes "- reply " ++ ip_text ip ++ codes " id " ++ decimal id ++ codes " ttl " ++ decimal ttl ++ codes " bytes " ++ decimal bytes
-what_text (Icmp kind code ip id) = codes "- icmp " ++ decimal kind ++ codes "/" ++ decimal code ++ codes " from " ++ ip_text ip ++ codes " id " ++ decimal id
-what_text (Timeout ip id) = codes "- timeout " ++ ip_text ip ++ codes " id " ++ decimal id
+what_text (Reply ip id ttl bytes) = codes "- reply " ++ ip4_text ip ++ codes " id " ++ decimal id ++ codes " ttl " ++ decimal ttl ++ codes " bytes " ++ decimal bytes
+what_text (Icmp kind code ip id) = codes "- icmp " ++ decimal kind ++ codes "/" ++ decimal code ++ codes " from " ++ ip4_text ip ++ codes " id " ++ decimal id
+what_text (Timeout ip id) = codes "- timeout " ++ ip4_text ip ++ codes " id " ++ decimal id
 
 abbrev pub entry_line : Entry → List ℕ
 entry_line e = line (then_word (decimal e.clock) (what_text e.what))
