@@ -1,5 +1,4 @@
-ghost use Rattle.std.specs.Prelude.{◌≡◌, ◌≤◌, ◌<◌, ◌++◌, Some, IfSome, OnOk, OnErr};
-ghost use Rattle.vn_types.specs.NumberWords.{number_up_to};
+ghost use Rattle.std.specs.Prelude.{◌≡◌, ◌≤◌, ◌++◌, Some, IfSome, OnOk, OnErr};
 ghost use Rattle.vn_types.specs.AddressWords.{ip4_parts, ip4_of, ip4_text, prefix_parts, prefix_of, prefix_text};
 
 use crate::address::{Ip4, Mac, Prefix};

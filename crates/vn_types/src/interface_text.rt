@@ -1,5 +1,5 @@
 ghost use Rattle.std.specs.Prelude.{◌≡◌, ◌∷◌, [], ◌++◌, Some, IfSome, OnOk, OnErr};
-ghost use Rattle.vn_types.specs.InterfaceWords.{side_of, unit_side_parts, unit_side_of, unit_side_text, side_letter, epair_of, ifname_of, ifname_text};
+ghost use Rattle.vn_types.specs.InterfaceWords.{side_of, unit_side_parts, unit_side_of, side_letter, epair_of, ifname_of, ifname_text};
 
 use crate::interface::{IfName, Side};
 use crate::memory::NoMemory;

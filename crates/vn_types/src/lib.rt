@@ -1,5 +1,5 @@
-//! Plain types of the product: addresses, names, paths, error numbers, and the model that all tables
-//! kept per stack share.
+//! Plain types of the product, as they are read and written: addresses, names, paths, error numbers.
+//! And the model that all tables kept per stack share.
 #![tactic(auto)]
 
 mod address;
@@ -21,6 +21,8 @@ mod path;
 mod path_text;
 mod per_stack;
 mod put;
+#[cfg(test)]
+mod tests;
 
 pub use address::{Ip4, Mac, Prefix};
 pub use address_text::{read_ip4, read_prefix, write_ip4, write_prefix};

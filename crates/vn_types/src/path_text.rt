@@ -1,8 +1,7 @@
-ghost use Rattle.std.specs.Prelude.{◌≡◌, ◌++◌, ◌∷◌, [], ◌&&◌, nat_lt, length, ℕ, List, Some, IfOk, OnOk, OnErr, true};
+ghost use Rattle.std.specs.Prelude.{◌≡◌, ◌++◌, ◌∷◌, [], ◌&&◌, nat_lt, length, ℕ, List, Some, IfOk, OnOk, OnErr};
 ghost use Rattle.std.specs.Bool.{OnTrue};
 ghost use Rattle.vn_types.specs.Words.{is_label};
-ghost use Rattle.vn_types.specs.NameWords.{label_of};
-ghost use Rattle.vn_types.specs.Paths.{Path, is_path, path_text};
+ghost use Rattle.vn_types.specs.Paths.{path_text};
 ghost use Rattle.vn_types.specs.PathWords.{labels_of, path_of};
 
 use crate::cut::cut;
