@@ -1,4 +1,6 @@
-ghost use Rattle.std.specs.Prelude.{◌≡◌, [], ◌++◌, ◌∷◌, length, IfOk, OnOk, OnErr};
+ghost use Rattle.vn_cells.specs.Events.{is_lane, is_valid_event};
+ghost use Rattle.vn_cells.specs.Names.{is_path};
+ghost use Rattle.std.specs.Prelude.{◌≡◌, ◌&&◌, [], ◌++◌, ◌∷◌, length, IfOk, OnOk, OnErr};
 
 use crate::command::Command;
 use std::alloc::Global;
@@ -31,7 +33,35 @@ impl Model for History {
     ghost view = { λ a. a.events };
 }
 
+/// Whether a lane has the number.
+fn is_lane(number: u8) -> bool
+    ensures { result ≡ is_lane number }
+{
+    1 <= number && number <= 8
+}
+
+/// Whether a lane has the number, and a path at most 8 labels.
+#[tactic(auto, unfolding(vn_types::specs::Paths::is_path))]
+fn stands(lane: u8, path: &Path) -> bool
+    ensures { result ≡ (is_lane lane && is_path path.now) }
+{
+    is_lane(lane) && path.labels().len() <= 8
+}
+
 impl Event {
+    /// Whether the event can happen: whether its lane, its paths and its numbers are within their bounds.
+    pub fn is_valid(&self) -> bool
+        ensures { result ≡ is_valid_event self.now }
+    {
+        match self {
+            Event::Cmd {
+                lane,
+                path,
+                command,
+            } => stands(*lane, path) && command.is_valid(path),
+        }
+    }
+
     /// The same event once more.
     pub fn copy(&self) -> Result<Event, NoMemory>
         ensures { IfOk result (λ e. e ≡ self.now) }

@@ -20,3 +20,6 @@ pub use table::{ArpRow, IfRow, RouteRow, RowTarget, Rows, Table};
 pub use transcript::{Entry, Outcome, What};
 pub use vn_rules::ArpState;
 pub use world::{Children, End, Live, Pair, Reader, Stack, World};
+
+#[cfg(test)]
+mod tests;

@@ -1,0 +1,6 @@
+pub mod Edits
+pub mod Up
+pub mod Creations
+mod Arms
+mod Commands
+mod Runs

@@ -1,0 +1,15 @@
+//! The kernel: the stacks of all paths and the history that led to them. Each operation is a step of the
+//! machine.
+#![tactic(auto)]
+
+mod ancestors;
+mod creation;
+mod events;
+mod kernel;
+mod row;
+mod stacks;
+
+pub use kernel::{Kernel, StepFault};
+
+#[cfg(test)]
+mod tests;
