@@ -1,1 +1,3 @@
 pub mod Renaming
+pub mod TimerOrder
+pub mod TimerLaws

@@ -3,3 +3,4 @@ pub mod Renamed
 pub mod Networks
 pub mod Construction
 pub mod Soundness
+pub mod Timers
