@@ -1,6 +1,6 @@
 use super::*;
 use std::test::Fail;
-use vn_cells::{Command, Event, Outcome, What};
+use vn_cells::{Command, Entry, Event, Outcome, What};
 use vn_types::{Errno, read_path};
 
 /// The event that lane 1 makes a jail with a limit.
@@ -20,18 +20,29 @@ fn creation(rt: &HostRuntime, issuer: &str, path: &str, children_max: u32) -> Re
     })
 }
 
+/// The errno of an entry that a refused command left, if it is one.
+fn refusal_of(entry: &Entry) -> Option<Errno> {
+    match &entry.what {
+        What::Cmd {
+            lane: _,
+            command: _,
+            outcome: Outcome::Refused(errno),
+        } => Some(*errno),
+        _ => None,
+    }
+}
+
 #[test]
 fn jails_are_made_below_living_jails_with_room(rt: HostRuntime) -> Result<(), Fail> {
-    // issuer, path and limit; the errno that the last entry of the issuer's transcript then has, if any
-    let rows = [
-        ("host", "a", 1, None),
-        ("host", "a", 0, Some(Errno::Exist)),
-        ("host", "b.c", 0, Some(Errno::NoEnt)),
-        ("a", "b", 0, None),
-        ("a", "c", 0, Some(Errno::Perm)),
+    let events = [
+        ("host", "a", 1),
+        ("host", "a", 0),
+        ("host", "b.c", 0),
+        ("a", "b", 0),
+        ("a", "c", 0),
     ];
     let mut kernel = Kernel::new(rt.alloc()).ok().ok_or("no memory")?;
-    for (issuer, path, limit, _) in rows {
+    for (issuer, path, limit) in events {
         let event = creation(&rt, issuer, path, limit)?;
         if !event.is_valid() {
             return Err("no valid event".into());
@@ -42,11 +53,19 @@ fn jails_are_made_below_living_jails_with_room(rt: HostRuntime) -> Result<(), Fa
     assert_eq!(rt; kernel.history().len(), 5);
     let report = kernel.finish().ok().ok_or("no memory")?;
     assert_eq!(rt; report.history.len(), 5);
-    // host, a and a.b: 11 constructors each, and the commands' own entries
-    let lengths = [14, 13, 11];
-    assert_eq!(rt; report.sections.len(), lengths.len());
-    for (section, length) in report.sections.as_slice().iter().zip(lengths) {
+    // host, a and a.b: the entries of 11 constructors, and then the answers of the commands run there
+    let rows: [(usize, &[Option<Errno>]); 3] = [
+        (14, &[None, Some(Errno::Exist), Some(Errno::NoEnt)]),
+        (13, &[None, Some(Errno::Perm)]),
+        (11, &[]),
+    ];
+    assert_eq!(rt; report.sections.len(), rows.len());
+    for (section, (length, answers)) in report.sections.as_slice().iter().zip(rows) {
         assert_eq!(rt; section.entries.len(), length);
+        let answered = section.entries.as_slice().iter().skip(11);
+        for (entry, answer) in answered.zip(answers) {
+            assert!(rt; refusal_of(entry) == *answer);
+        }
     }
     Ok(())
 }
