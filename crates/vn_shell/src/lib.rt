@@ -1,0 +1,11 @@
+//! Scripts, as they are read.
+#![tactic(auto)]
+
+mod creation;
+mod lines;
+mod script;
+#[cfg(test)]
+mod tests;
+mod words;
+
+pub use script::{Reason, ScriptFault, read_script};

@@ -1,0 +1,94 @@
+use super::*;
+use std::alloc::Global;
+use std::test::Fail;
+use vn_cells::{Command, Line, Part, Script};
+use vn_types::{Path, write_path};
+
+fn put_path(path: &Path, out: &mut Vec<u8>) -> Result<(), Fail> {
+    if write_path(path, out).is_err() {
+        out.extend_from_slice(b"no memory")?;
+    }
+    out.extend_from_slice(b" ")?;
+    Ok(())
+}
+
+// Each phase, and each of its lines as its lane, its path, and the path and the limit that it names.
+fn put_script(script: &Script, out: &mut Vec<u8>) -> Result<(), Fail> {
+    for part in script.parts.as_slice() {
+        let Part::Phase(lines) = part;
+        out.extend_from_slice(b"phase ")?;
+        for lane_line in lines.as_slice() {
+            let Line::Cmd(Command::JailCreate { path, children_max }) = &lane_line.line;
+            out.extend_from_slice(&[lane_line.lane.wrapping_add(b'0'), b' '])?;
+            put_path(&lane_line.path, out)?;
+            put_path(path, out)?;
+            out.extend_from_slice(if *children_max == 0 { b"- " } else { b"limit " })?;
+        }
+    }
+    Ok(())
+}
+
+fn reason_text(reason: Reason) -> &'static str {
+    match reason {
+        Reason::Text => "text",
+        Reason::Lane => "lane",
+        Reason::Path => "path",
+        Reason::Command => "command",
+        Reason::Depth => "depth",
+    }
+}
+
+// What is read, or the line that is refused and why.
+fn reading(alloc: Global, text: &[u8]) -> Result<Vec<u8>, Fail> {
+    let mut out = Vec::new(alloc);
+    match read_script(alloc, text) {
+        Ok(script) => put_script(&script, &mut out)?,
+        Err(ScriptFault::NoMemory) => out.extend_from_slice(b"no memory")?,
+        Err(ScriptFault::Script { line, reason }) => {
+            let text = format!(in alloc; "{line} {}", reason_text(reason))?;
+            out.extend_from_slice(text.as_bytes())?;
+        }
+    }
+    Ok(out)
+}
+
+#[test]
+fn scripts_are_read(rt: HostRuntime) -> Result<(), Fail> {
+    let alloc = rt.alloc();
+    let rows = [
+        ("", ""),
+        ("1 host jail -c name=a vnet persist", "phase 1 host a - "),
+        ("1 a jail -c name=b vnet persist\n", "phase 1 a b - "),
+        (
+            "#\n  8  a.b jail  -c persist name=c.d vnet \n\n2 host jail -c vnet persist name=b",
+            "phase 8 a.b c.d - 2 host b - ",
+        ),
+        ("# note\n  \n9 host jail -c name=a vnet persist", "3 lane"),
+        ("01 host jail -c name=a vnet persist", "1 lane"),
+        ("\nsettle\n1", "2 command"),
+        ("1\n9", "1 path"),
+        ("1 a..b jail -c name=a vnet persist", "1 path"),
+        ("1 host jail -c name=a vnet persist now", "1 command"),
+        ("1 host jail -c name=a vnet vnet", "1 command"),
+        (
+            "1 host jail -c name=a vnet persist children.max=3",
+            "1 command",
+        ),
+        ("1 host jail -c name=host vnet persist", "1 command"),
+        (
+            "1 a.b.c.d jail -c name=a.b.c.d vnet persist",
+            "phase 1 a.b.c.d a.b.c.d - ",
+        ),
+        ("1 a.b.c.d jail -c name=a.b.c.d.e vnet persist", "1 depth"),
+        ("#\n# a\tb", "2 text"),
+    ];
+    for (text, want) in rows {
+        let found = reading(alloc, text.as_bytes())?;
+        assert_eq!(rt; found.as_slice(), want.as_bytes(), "{text}");
+    }
+    let mut comment = Vec::from_elem(alloc, b'#', 4096)?;
+    assert_eq!(rt; reading(alloc, &comment)?.as_slice(), b"".as_slice());
+    comment.push(b'#')?;
+    assert_eq!(rt; reading(alloc, &comment)?.as_slice(), b"1 text".as_slice());
+    Ok(())
+}

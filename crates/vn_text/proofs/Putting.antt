@@ -1,0 +1,59 @@
+-- Texts are put at the end of an output one after another.
+use Rattle.std.proofs.Common.{◌≡◌, ℕ, List, [], ◌∷◌, ◌++◌, length, refl, sym, ap, append_assoc, ◌∙◌, true}
+use Rattle.std.specs.Prelude.{codes, decimal, ◌==◌}
+use Rattle.std.proofs.lemmas.List.{append-nil}
+use Rattle.std.specs.List.{flat_map}
+use Rattle.std.proofs.Math.Dec.{eqb, eqb-suc-zero}
+use Rattle.std.proofs.lemmas.Bool.{cond-false, ne_eqb}
+use Rattle.vn_types.specs.Paths.{path_text}
+use Rattle.vn_cells.specs.declared.event.Event.{Event}
+use Rattle.vn_cells.specs.declared.report.Report.{Report}
+use Rattle.vn_cells.specs.declared.transcript.Entry.{Entry}
+use Rattle.vn_cells.specs.Names.{Path}
+use Rattle.vn_cells.specs.Text.{entry_line, event_text, history_text, limit_text, line, section_text}
+use Rattle.vn_text.specs.Whole.{pool_text, report_text, transcripts_text}
+
+two_put : (old p q a b : List ℕ) → a ≡ old ++ p → b ≡ a ++ q → b ≡ old ++ (p ++ q)
+two_put old p q a b first second = second ∙ ap (λ t. t ++ q) first ∙ append_assoc old p q
+
+pub four_put : (old p q r s a b c d : List ℕ) → a ≡ old ++ p → b ≡ a ++ q → c ≡ b ++ r → d ≡ c ++ s → d ≡ old ++ (p ++ q ++ r ++ s)
+four_put old p q r s a b c d first second third fourth =
+    let in_a_row : d ≡ (((old ++ p) ++ q) ++ r) ++ s = cc in
+    in_a_row ∙ simp append_assoc
+
+five_put : (old p q r s t a b c d e : List ℕ) → a ≡ old ++ p → b ≡ a ++ q → c ≡ b ++ r → d ≡ c ++ s → e ≡ d ++ t → e ≡ old ++ ((p ++ q ++ r ++ s) ++ t)
+five_put old p q r s t a b c d e first second third fourth fifth =
+    let in_a_row : e ≡ ((((old ++ p) ++ q) ++ r) ++ s) ++ t = cc in
+    in_a_row ∙ simp append_assoc
+
+pub limit_put : (old a b : List ℕ) (limit number : ℕ) → (limit ≡ 0 → ⊥) → number ≡ limit → a ≡ old ++ codes " children.max=" → b ≡ a ++ decimal number → b ≡ old ++ limit_text limit
+limit_put old a b limit number other same first second =
+    second ∙ ap (λ t. t ++ decimal number) first ∙ append_assoc old (codes " children.max=") (decimal number) ∙ ap (λ n. old ++ (codes " children.max=" ++ decimal n)) same
+    ∙ ap (λ t. old ++ t) (sym (cond-false (eqb limit 0) [] (codes " children.max=" ++ decimal limit) (ne_eqb limit 0 other)))
+
+pub pool_put : (old a b c d e : List ℕ) (opened kept : ℕ) → a ≡ old ++ codes "== pool open " → b ≡ a ++ decimal opened → c ≡ b ++ codes " kept " → d ≡ c ++ decimal kept → e ≡ d ++ 10 ∷ []
+    → e ≡ old ++ pool_text opened kept
+pool_put old a b c d e opened kept = five_put old (codes "== pool open ") (decimal opened) (codes " kept ") (decimal kept) (10 ∷ []) a b c d e
+
+pub nothing_put : (old : List ℕ) (p : Path) (es : List Entry) → (length es == 0) ≡ true → old ≡ old ++ section_text p es
+unfolding section_text
+nothing_put old p [] none = sym (append-nil old)
+nothing_put old p (e ∷ es) none = absurd (cc (eqb-suc-zero (length es)))
+
+pub section_put : (old a b : List ℕ) (p : Path) (es : List Entry) → (length es ≡ 0 → ⊥) → a ≡ old ++ line (codes "== " ++ path_text p) → b ≡ a ++ flat_map entry_line es → b ≡ old ++ section_text p es
+unfolding section_text
+section_put old a b p [] some first second = absurd (some refl)
+section_put old a b p (e ∷ es) some first second = two_put old (line (codes "== " ++ path_text p)) (flat_map entry_line (e ∷ es)) a b first second
+
+pub history_put : (old a b c : List ℕ) (events : List Event) → a ≡ old ++ line (codes "== history 1") → b ≡ a ++ flat_map (λ e. line (event_text e)) events → c ≡ b ++ line (codes "== end") → c ≡ old ++ history_text events
+unfolding history_text
+history_put old a b c events first second third =
+    two_put old (line (codes "== history 1") ++ flat_map (λ e. line (event_text e)) events) (line (codes "== end")) b c (two_put old (line (codes "== history 1")) (flat_map (λ e. line (event_text e)) events) a b first second) third
+
+pub transcripts_put : (old a b : List ℕ) (r : Report) → a ≡ old ++ flat_map (λ s. section_text s.path s.entries) r.sections → b ≡ a ++ pool_text r.opened r.kept → b ≡ old ++ transcripts_text r
+unfolding transcripts_text
+transcripts_put old a b r first second = two_put old (flat_map (λ s. section_text s.path s.entries) r.sections) (pool_text r.opened r.kept) a b first second
+
+pub report_put : (old a b : List ℕ) (r : Report) → a ≡ old ++ transcripts_text r → b ≡ a ++ history_text r.history → b ≡ old ++ report_text r
+unfolding report_text
+report_put old a b r first second = two_put old (transcripts_text r) (history_text r.history) a b first second

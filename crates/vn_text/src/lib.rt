@@ -1,0 +1,19 @@
+//! What a run leaves, written as text: the transcripts of its stacks, the readers and table versions
+//! left, and its history.
+#![tactic(auto)]
+
+mod command;
+mod history;
+mod laws;
+mod put;
+mod report;
+mod section;
+mod transcript;
+
+pub use command::write_command;
+pub use history::write_history;
+pub use laws::law_of_reports;
+pub use report::{write_report, write_sections};
+
+#[cfg(test)]
+mod tests;
