@@ -16,7 +16,7 @@ use Rattle.vn_cells.specs.contracts.command.Command.{enum}
 use Rattle.vn_cells.specs.contracts.event.Event.{enum as event_enum}
 use Rattle.vn_cells.specs.Events.{IsValidEvent, is_valid_event, is_lane, is_named_path, is_valid_command}
 use Rattle.vn_cells.specs.Names.{is_host, is_path}
-use Rattle.vn_cells.specs.World.{is_alive, stack_at}
+use Rattle.vn_cells.specs.World.{stack_at}
 use Rattle.vn_cells.specs.Refusal.{creation_refusal, refusal}
 use Rattle.vn_cells.specs.Step.{answered, created, effect, outcome, refusal_at, step}
 use Rattle.vn_kernel.specs.Worlds.{stack_in, world_of}

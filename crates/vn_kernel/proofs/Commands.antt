@@ -11,8 +11,7 @@ use Rattle.vn_cells.specs.declared.transcript.What.TheVariants.{Cmd as Ran}
 use Rattle.vn_cells.specs.declared.world.Stack.{Stack}
 use Rattle.vn_cells.specs.declared.world.World.{World}
 use Rattle.vn_cells.specs.Table.{put}
-use Rattle.vn_cells.specs.World.{edit_stack, is_alive, noting, stack_at}
-use Rattle.vn_cells.specs.Refusal.{refusal}
+use Rattle.vn_cells.specs.World.{edit_stack, noting, stack_at}
 use Rattle.vn_cells.specs.Step.{answered, effect, outcome, ran, refusal_at}
 use Rattle.vn_kernel.specs.Answers.{Answers, answer_for, world_for}
 use Rattle.vn_kernel.specs.Worlds.{stack_in, world_of}

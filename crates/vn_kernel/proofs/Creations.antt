@@ -1,18 +1,15 @@
 -- What refuses a jail, and what making one does.
-use Rattle.std.proofs.Common.{◌≡◌, ℕ, Bool, true, false, not, List, [], ◌∷◌, Option, Some, None, refl, sym, ap, ap₂, ◌∙◌, arith}
-use Rattle.std.specs.Prelude.{if◌then◌else◌}
+use Rattle.std.proofs.Common.{◌≡◌, ℕ, Bool, false, not, List, [], ◌∷◌, Some, None, refl, ap, ◌∙◌}
 use Rattle.std.specs.Option.{is_some}
-use Rattle.vn_types.specs.declared.errno.Errno.{Errno}
 use Rattle.vn_types.specs.declared.errno.Errno.TheVariants.{NoEnt, Exist, Perm}
 use Rattle.vn_types.specs.Paths.{Path, path_cmp, above, parent}
 use Rattle.vn_cells.specs.declared.world.Stack.{Stack}
-use Rattle.vn_cells.specs.Table.{find, put, each}
-use Rattle.vn_cells.specs.World.{no_stack, stack_at, edit_stack, each_stack, is_alive}
+use Rattle.vn_cells.specs.Table.{put, each}
+use Rattle.vn_cells.specs.World.{stack_at, edit_stack, each_stack}
 use Rattle.vn_cells.specs.Refusal.{first_errno, any_full, creation_refusal}
 use Rattle.vn_cells.specs.Step.{construct, created}
 use Rattle.vn_laws.proofs.SoundSteps.{none_full}
 use Rattle.vn_kernel.specs.Worlds.{stack_in, world_of, any_full_in, told}
-use Rattle.vn_kernel.proofs.Up.{untold, not_above}
 
 -- by what the kernel tests, in order
 pub refused_by : (clock : ℕ) (es : List (Path × Stack)) (p : Path) (a b c : Bool) → a ≡ is_some (stack_in es (parent p)).live → b ≡ is_some (stack_in es p).live → c ≡ any_full_in es (above p)

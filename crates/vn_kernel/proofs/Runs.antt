@@ -1,5 +1,5 @@
 -- A run with one event more; and the rows that have a transcript.
-use Rattle.std.proofs.Common.{◌≡◌, ℕ, Bool, true, false, List, [], ◌∷◌, ◌++◌, Some, None, map, length, suc, ◌<◌, ◌≤◌, ◌+◌, arith, refl, sym, ap, ap₂, ◌∙◌}
+use Rattle.std.proofs.Common.{◌≡◌, ℕ, Bool, true, false, List, [], ◌∷◌, ◌++◌, Some, None, map, length, suc, ◌<◌, ◌≤◌, arith, refl, sym, ap, ap₂, ◌∙◌}
 use Rattle.std.specs.Prelude.{if◌then◌else◌}
 use Rattle.std.specs.List.{filter}
 use Rattle.vn_types.specs.Paths.{Path, path_cmp}
@@ -9,7 +9,6 @@ use Rattle.vn_cells.specs.declared.transcript.Entry.{Entry}
 use Rattle.vn_cells.specs.declared.world.Stack.{Stack}
 use Rattle.vn_cells.specs.declared.world.World.{World}
 use Rattle.vn_cells.specs.Table.{find, put}
-use Rattle.vn_cells.specs.World.{no_stack}
 use Rattle.vn_cells.specs.Reports.{has_entry, report_of, section_of, sections_of}
 use Rattle.vn_cells.specs.Step.{construct, opening, run, run_from, step}
 use Rattle.vn_kernel.specs.Machines.{IsRun, kept_world, opened}

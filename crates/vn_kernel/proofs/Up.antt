@@ -1,18 +1,17 @@
 -- A path's ancestors, one after another.
-use Rattle.std.proofs.Common.{◌≡◌, ◌≢◌, ℕ, ◌<◌, ◌≤◌, Bool, true, false, ◌||◌, ◌&&◌, not, List, [], ◌∷◌, length, Option, Some, None, refl, sym, ap, ◌∙◌, arith}
+use Rattle.std.proofs.Common.{◌≡◌, ◌<◌, ◌≤◌, Bool, true, false, ◌||◌, List, [], ◌∷◌, length, Option, Some, None, refl, sym, ap, ◌∙◌, arith}
 use Rattle.std.specs.Prelude.{if◌then◌else◌, unwrap_or}
 use Rattle.std.specs.Option.{option_map}
 use Rattle.std.specs.List.{list_any}
-use Rattle.vn_types.specs.Paths.{Path, path_cmp, path_eq, above, parent, is_under, is_host}
+use Rattle.vn_types.specs.Paths.{Path, path_cmp, path_eq, above, parent}
 use Rattle.vn_types.specs.PathOrder.{path_eq-Decides, path_ties}
 use Rattle.vn_types.proofs.Ancestors.{above-parent, any-above, length-parent}
 use Rattle.vn_cells.specs.declared.world.Stack.{Stack}
 use Rattle.vn_cells.specs.Table.{find, each}
 use Rattle.vn_cells.specs.World.{no_stack}
-use Rattle.vn_cells.specs.Refusal.{is_full}
 use Rattle.vn_cells.specs.Step.{one_more_below}
 use Rattle.vn_laws.proofs.TableLaws.{find-each}
-use Rattle.vn_kernel.specs.Worlds.{stack_in, any_full_in, told}
+use Rattle.vn_kernel.specs.Worlds.{stack_in, told}
 use Rattle.vn_kernel.proofs.Edits.{at_path}
 
 -- paths of at most one label have none

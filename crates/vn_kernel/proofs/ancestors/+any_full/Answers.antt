@@ -1,5 +1,5 @@
-use Rattle.std.proofs.Common.{◌≡◌, true, false, ◌||◌, ◌<◌, ◌≤◌, List, length, sym, ap, ◌∙◌, subst, IfOk, arith}
-use Rattle.vn_types.specs.Paths.{Path, above, parent}
+use Rattle.std.proofs.Common.{◌≡◌, ◌||◌, ◌≤◌, length, sym, ap, ◌∙◌, subst, IfOk, arith}
+use Rattle.vn_types.specs.Paths.{above, parent}
 use Rattle.vn_cells.specs.Refusal.{is_full}
 use Rattle.vn_kernel.specs.Worlds.{stack_in, any_full_in}
 use Rattle.vn_kernel.proofs.Up.{none-above, first-above, shorter}

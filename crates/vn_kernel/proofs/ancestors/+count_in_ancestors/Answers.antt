@@ -1,5 +1,5 @@
-use Rattle.std.proofs.Common.{◌≡◌, true, false, ◌||◌, ◌<◌, ◌≤◌, ◌∷◌, length, sym, ap, ◌∙◌, arith}
-use Rattle.vn_types.specs.Paths.{Path, above, parent}
+use Rattle.std.proofs.Common.{◌≤◌, ◌∷◌, length, sym, ap, ◌∙◌, arith}
+use Rattle.vn_types.specs.Paths.{above}
 use Rattle.vn_cells.specs.Table.{each}
 use Rattle.vn_cells.specs.declared.world.Stack.{Stack}
 use Rattle.vn_cells.specs.Refusal.{is_full}

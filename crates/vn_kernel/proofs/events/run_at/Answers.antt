@@ -1,6 +1,5 @@
-use Rattle.std.proofs.Common.{◌++◌, sym, ap, ◌∙◌}
+use Rattle.std.proofs.Common.{sym, ap, ◌∙◌}
 use Rattle.vn_cells.specs.Refusal.{creation_refusal}
-use Rattle.vn_cells.specs.Step.{created}
 use Rattle.vn_kernel.specs.Worlds.{world_of}
 use Rattle.vn_kernel.proofs.Arms.{effect_of, joins, outcome_of, refusal_of}
 use Rattle.vn_kernel.proofs.Commands.{dead, done, refused}

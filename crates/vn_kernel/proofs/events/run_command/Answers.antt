@@ -1,4 +1,4 @@
-use Rattle.std.proofs.Common.{sym, ap, ◌∙◌}
+use Rattle.std.proofs.Common.{ap, ◌∙◌}
 use Rattle.vn_types.specs.Paths.{path_cmp}
 use Rattle.vn_cells.specs.declared.command.Command.{Command}
 use Rattle.vn_cells.specs.declared.transcript.What.TheVariants.{Cmd as Ran}

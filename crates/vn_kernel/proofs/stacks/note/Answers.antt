@@ -1,4 +1,4 @@
-use Rattle.std.proofs.Common.{ap, sym, ◌∙◌}
+use Rattle.std.proofs.Common.{ap, ◌∙◌}
 use Rattle.std.specs.BTreeMap.{BTreeMap}
 use Rattle.vn_types.specs.Paths.{Path, path_cmp}
 use Rattle.vn_cells.specs.declared.world.Stack.{Stack}

@@ -1,4 +1,3 @@
-use Rattle.std.proofs.Common.{ap, Some}
 use Rattle.vn_kernel.proofs.Runs.{none_short, opened_is, opened_run}
 use Rattle.vn_kernel.proofs.kernel.Kernel.new.Goals as goal
 
