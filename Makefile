@@ -1,6 +1,19 @@
 # The repository's commands. `make test` is the gate: every proof from nothing, the must-fail edits,
 # the tests and the programs; its last line is 'N passed, M failed'.
-.PHONY: test
+.PHONY: test demo try program
+
+program = crates/vnetsh/out/vnetsh
 
 test:
 	@rt ci
+
+# Proves the program with all below it, builds it and runs the example.
+demo: program
+	@$(program) run < examples/jails.vnet
+
+# The same without a proof.
+try:
+	@cd crates/vnetsh && rt try -- run < ../../examples/jails.vnet
+
+program:
+	@cd crates/vnetsh && rt run -- run < /dev/null > /dev/null
