@@ -1,3 +1,5 @@
 pub mod Renaming
+pub mod NetworkLaws
 pub mod TimerOrder
 pub mod TimerLaws
+pub mod AddressLaws

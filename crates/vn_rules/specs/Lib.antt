@@ -4,3 +4,4 @@ pub mod Networks
 pub mod Construction
 pub mod Soundness
 pub mod Timers
+pub mod Addresses

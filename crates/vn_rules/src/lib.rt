@@ -4,6 +4,7 @@
 
 mod address;
 mod arp;
+mod network;
 mod parts;
 mod ping;
 mod route;
@@ -12,6 +13,7 @@ mod timer;
 
 pub use address::{Addr, AddrOf};
 pub use arp::{ArpEntry, ArpEntryOf, ArpState};
+pub use network::{directed_broadcast, is_loopback, is_no_host, lies_in, network_of};
 pub use parts::{Drops, PartsOf, Variable};
 pub use ping::{Ping, PingOf, PingsOf};
 pub use route::{Route, RouteOf, Target, TargetOf};

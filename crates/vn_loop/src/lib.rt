@@ -1,0 +1,12 @@
+//! The loopback queues: the datagrams that are on their way through lo0 (lo(4)). Each stack has a queue
+//! of its own.
+#![tactic(auto)]
+
+mod loops;
+mod queue;
+mod row;
+
+pub use loops::Loops;
+
+#[cfg(test)]
+mod tests;
