@@ -11,7 +11,7 @@ use Rattle.vn_cells.specs.Table.{find, each}
 use Rattle.vn_cells.specs.World.{no_stack}
 use Rattle.vn_cells.specs.Step.{one_more_below}
 use Rattle.vn_laws.proofs.TableLaws.{find-each}
-use Rattle.vn_kernel.specs.Worlds.{stack_in, told}
+use Rattle.vn_kernel.specs.Worlds.{stack_in, one_more_below_in}
 use Rattle.vn_kernel.proofs.Edits.{at_path}
 
 -- paths of at most one label have none
@@ -44,7 +44,7 @@ stack_in-each f es q none = ap (λ o. unwrap_or o no_stack) (find-each path_cmp 
     by None = sym none
     by (Some s) = refl
 
-told_none : (ps : List Path) (q : Path) → told ps q no_stack ≡ no_stack
+told_none : (ps : List Path) (q : Path) → one_more_below_in ps q no_stack ≡ no_stack
 told_none ps q = by (list_any (path_eq q) ps)
   where
     by : (b : Bool) → (if b then one_more_below no_stack else no_stack) ≡ no_stack
@@ -52,21 +52,21 @@ told_none ps q = by (list_any (path_eq q) ps)
     by false = refl
 
 -- a path's own stack is not told of it
-pub untold : (p : Path) (es : List (Path × Stack)) → stack_in (each (told (above p)) es) p ≡ stack_in es p
-untold p es = stack_in-each (told (above p)) es p (told_none (above p) p) ∙ ap (λ b. if b then one_more_below (stack_in es p) else stack_in es p) (not_above p)
+pub untold : (p : Path) (es : List (Path × Stack)) → stack_in (each (one_more_below_in (above p)) es) p ≡ stack_in es p
+untold p es = stack_in-each (one_more_below_in (above p)) es p (told_none (above p) p) ∙ ap (λ b. if b then one_more_below (stack_in es p) else stack_in es p) (not_above p)
 
-pub told-none : (es : List (Path × Stack)) → each (told []) es ≡ es
+pub one_more_below_in-none : (es : List (Path × Stack)) → each (one_more_below_in []) es ≡ es
 unfolding each
-told-none [] = refl
-told-none (e ∷ es) = ap (λ r. e ∷ r) (told-none es)
+one_more_below_in-none [] = refl
+one_more_below_in-none (e ∷ es) = ap (λ r. e ∷ r) (one_more_below_in-none es)
 
 -- the parent is told after its own ancestors
-pub told-parent : (p : Path) (ps : List Path) → list_any (path_eq p) ps ≡ false → (es : List (Path × Stack)) → each (at_path one_more_below p) (each (told ps) es) ≡ each (told (p ∷ ps)) es
+pub one_more_below_in-parent : (p : Path) (ps : List Path) → list_any (path_eq p) ps ≡ false → (es : List (Path × Stack)) → each (at_path one_more_below p) (each (one_more_below_in ps) es) ≡ each (one_more_below_in (p ∷ ps)) es
 unfolding each
-told-parent p ps apart [] = refl
-told-parent p ps apart (e ∷ es) = λ i. (e.0, by (path_eq e.0 p) refl i) ∷ told-parent p ps apart es i
+one_more_below_in-parent p ps apart [] = refl
+one_more_below_in-parent p ps apart (e ∷ es) = λ i. (e.0, by (path_eq e.0 p) refl i) ∷ one_more_below_in-parent p ps apart es i
   where
-    by : (b : Bool) → path_eq e.0 p ≡ b → (if b then one_more_below (told ps e.0 e.1) else told ps e.0 e.1) ≡ (if b || list_any (path_eq e.0) ps then one_more_below e.1 else e.1)
+    by : (b : Bool) → path_eq e.0 p ≡ b → (if b then one_more_below (one_more_below_in ps e.0 e.1) else one_more_below_in ps e.0 e.1) ≡ (if b || list_any (path_eq e.0) ps then one_more_below e.1 else e.1)
     by true f = ap (λ c. one_more_below (if c then one_more_below e.1 else e.1)) (ap (λ q. list_any (path_eq q) ps) ((path_eq-Decides e.0 p).0 f) ∙ apart)
     by false f = refl
 

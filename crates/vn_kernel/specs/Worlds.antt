@@ -21,5 +21,5 @@ abbrev pub any_full_in : List (Path × Stack) → List Path → Bool
 any_full_in stacks paths = list_any (λ p. is_full (stack_in stacks p).live) paths
 
 -- one more living descendant in the stacks of some paths
-abbrev pub told : List Path → Path → Stack → Stack
-told paths q s = if list_any (path_eq q) paths then one_more_below s else s
+abbrev pub one_more_below_in : List Path → Path → Stack → Stack
+one_more_below_in paths q s = if list_any (path_eq q) paths then one_more_below s else s

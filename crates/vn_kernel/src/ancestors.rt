@@ -1,7 +1,7 @@
 ghost use Rattle.std.specs.Prelude.{◌≡◌, false, IfOk, OnOk};
 ghost use Rattle.vn_types.specs.Paths.{above};
 ghost use Rattle.vn_cells.specs.Table.{each};
-ghost use Rattle.vn_kernel.specs.Worlds.{any_full_in, told};
+ghost use Rattle.vn_kernel.specs.Worlds.{any_full_in, one_more_below_in};
 
 use crate::stacks::{Stacks, count_descendant, is_full};
 use vn_types::{NoMemory, Path};
@@ -24,7 +24,7 @@ pub(crate) fn any_full(stacks: &Stacks, path: &Path) -> Result<bool, NoMemory>
 /// Counts one living descendant more of each of a path's ancestors other than host.
 pub(crate) fn count_in_ancestors(stacks: &mut Stacks, path: &Path) -> Result<(), NoMemory>
     requires { any_full_in stacks.old.entries (above path.now) ≡ false }
-    ensures { OnOk result (stacks.new.entries ≡ each (told (above path.now)) stacks.old.entries) }
+    ensures { OnOk result (stacks.new.entries ≡ each (one_more_below_in (above path.now)) stacks.old.entries) }
 {
     if path.depth() < 2 {
         return Ok(());

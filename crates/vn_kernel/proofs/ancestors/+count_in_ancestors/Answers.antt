@@ -5,12 +5,12 @@ use Rattle.vn_cells.specs.declared.world.Stack.{Stack}
 use Rattle.vn_cells.specs.Refusal.{is_full}
 use Rattle.vn_cells.specs.Step.{one_more_below}
 use Rattle.vn_kernel.proofs.Edits.{at_path}
-use Rattle.vn_kernel.specs.Worlds.{stack_in, any_full_in, told}
-use Rattle.vn_kernel.proofs.Up.{none-above, first-above, shorter, untold, told-none, told-parent, not_above, or_first, or_second}
+use Rattle.vn_kernel.specs.Worlds.{stack_in, any_full_in, one_more_below_in}
+use Rattle.vn_kernel.proofs.Up.{none-above, first-above, shorter, untold, one_more_below_in-none, one_more_below_in-parent, not_above, or_first, or_second}
 use Rattle.vn_kernel.proofs.ancestors.+count_in_ancestors.Goals as goal
 
 pub returns-then-depth-lt2 : goal.returns-then-depth-lt2
-returns-then-depth-lt2 t c = sym (ap (λ ps. each (told ps) c.args.stacks.now.entries) (none-above c.args.path.now (omega (arith, c.depth.ensures.depth))) ∙ told-none c.args.stacks.now.entries)
+returns-then-depth-lt2 t c = sym (ap (λ ps. each (one_more_below_in ps) c.args.stacks.now.entries) (none-above c.args.path.now (omega (arith, c.depth.ensures.depth))) ∙ one_more_below_in-none c.args.stacks.now.entries)
 
 pub count_in_ancestors-requires : goal.count_in_ancestors-requires
 count_in_ancestors-requires t c =
@@ -33,6 +33,6 @@ returns t c =
     let many : 2 ≤ length c.args.path.now = omega (arith, c.depth.ensures.depth) in
     c.count_descendant.ensures
     ∙ ap (each (at_path one_more_below c.in_ok-parent.parent)) c.in_ok-count_in_ancestors.ensures
-    ∙ told-parent c.in_ok-parent.parent (above c.in_ok-parent.parent) (not_above c.in_ok-parent.parent) c.args.stacks.now.entries
-    ∙ ap (λ p. each (told (p ∷ above p)) c.args.stacks.now.entries) c.in_ok-parent.ensures
-    ∙ ap (λ ps. each (told ps) c.args.stacks.now.entries) (sym (first-above c.args.path.now many))
+    ∙ one_more_below_in-parent c.in_ok-parent.parent (above c.in_ok-parent.parent) (not_above c.in_ok-parent.parent) c.args.stacks.now.entries
+    ∙ ap (λ p. each (one_more_below_in (p ∷ above p)) c.args.stacks.now.entries) c.in_ok-parent.ensures
+    ∙ ap (λ ps. each (one_more_below_in ps) c.args.stacks.now.entries) (sym (first-above c.args.path.now many))
