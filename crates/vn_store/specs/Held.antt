@@ -1,0 +1,25 @@
+-- What a registry of variables holds.
+use Rattle.std.specs.Prelude.{◌≡◌, ℕ, List, Option, None}
+use Rattle.std.specs.Option.{option_and_then}
+use Rattle.vn_types.specs.PerStack.{of as kept}
+use Rattle.vn_rules.specs.declared.parts.Variable.{Variable}
+use Rattle.vn_store.specs.Variables.{Declaration, value_of}
+
+pub record Held : Type 0 where
+  -- in order of declaration
+  pub declared : List Declaration
+  -- the variables of each stack number that has an instance
+  pub stacks : List (Option (List Variable))
+
+-- the variables of a stack, by its number
+abbrev pub of : Held → ℕ → Option (List Variable)
+of held sid = kept None held.stacks sid
+
+-- the value of a variable of a stack
+abbrev pub value_in : Held → ℕ → List ℕ → Option ℕ
+value_in held sid name = option_and_then (value_of name) (of held sid)
+
+-- the declarations and each stack's variables are as before
+pub record IsUnchanged (old new : Held) : Type 0 where
+  pub declared : new.declared ≡ old.declared
+  pub stacks : (q : ℕ) → of new q ≡ of old q

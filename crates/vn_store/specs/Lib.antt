@@ -1,0 +1,5 @@
+pub mod Limits
+pub mod Rows
+pub mod Variables
+pub mod Held
+pub mod Faults
