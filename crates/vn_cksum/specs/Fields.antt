@@ -1,6 +1,6 @@
 -- Formats as RFCs draw them: fields in wire order, each with its width in bits and its value.
-use Rattle.std.specs.Prelude.{ℕ, ◌+◌, ◌*◌, ◌/◌, ◌%◌, ◌^◌, ◌==◌, if◌then◌else◌, List, [], ◌∷◌, ◌++◌, drop}
-use Rattle.byteorder.specs.Endian.{big_bytes, big_number}
+use Rattle.std.specs.Prelude.{ℕ, ◌+◌, ◌*◌, ◌/◌, ◌%◌, ◌^◌, ◌<◌, ◌==◌, All, if◌then◌else◌, List, [], ◌∷◌, ◌++◌}
+use Rattle.byteorder.specs.Endian.{big_bytes, big_from}
 
 -- the octets of fields, where `width` bits of the value `value` stand before them and fill no octet yet
 abbrev pub octets_after : ℕ → ℕ → List (ℕ × ℕ) → List ℕ
@@ -14,6 +14,10 @@ octets_after width value (field ∷ fields) =
 abbrev pub octets_of : List (ℕ × ℕ) → List ℕ
 octets_of fields = octets_after 0 0 fields
 
--- the number that octets i to i + n - 1 spell
+-- the number that n octets from place i on spell
 abbrev pub number_at : ℕ → ℕ → List ℕ → ℕ
-number_at i n octets = big_number n (drop i octets)
+number_at i n octets = big_from i n octets
+
+-- each value has its width
+abbrev pub FitWidths : List (ℕ × ℕ) → Type 0
+FitWidths fields = All (λ field. field.1 < 2 ^ field.0) fields
