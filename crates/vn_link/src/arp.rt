@@ -63,7 +63,7 @@ impl ArpPacket {
         })
     }
 
-    /// Writes the packet.
+    /// Writes the packet, which is the payload of a frame of type 0x0806.
     pub fn write(&self, out: &mut [u8])
         requires op { (self.now.op ≡ 1) ⊎ (self.now.op ≡ 2) }
         requires room { length out.old ≡ 28 }
@@ -86,8 +86,8 @@ impl ArpPacket {
     }
 }
 
-// RFC 826, "Packet Reception": does the packet speak of this hardware and this protocol, and are their
-// addresses as long as it says?
+// RFC 826, "Packet Reception": "?Do I have the hardware type in ar$hrd?" and "?Do I speak the protocol in
+// ar$pro?", each with a length that is "optionally" checked.
 fn refusal(octets: &[u8]) -> Option<ArpBad>
     ensures first { result ≡ arp_refusal octets.now }
     ensures long { IfNone result (28 ≤ length octets.now) }

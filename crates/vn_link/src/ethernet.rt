@@ -15,7 +15,7 @@ pub enum EthBad {
     Short,
 }
 
-/// An Ethernet frame in the octets that it was read from.
+/// An Ethernet frame (RFC 894) in the octets that it was read from.
 #[derive(Drop)]
 pub struct EthView<'a> {
     frame: &'a [u8],
@@ -47,12 +47,14 @@ impl<'a> EthView<'a> {
         Ok(EthView { frame })
     }
 
+    /// The station that the frame is for.
     pub fn dst(&self) -> Mac
         ensures { result ≡ self.now.dst }
     {
         leading_mac(self.frame)
     }
 
+    /// The station that sent it.
     pub fn src(&self) -> Mac
         ensures { result ≡ self.now.src }
     {
@@ -74,7 +76,7 @@ impl<'a> EthView<'a> {
     }
 }
 
-/// Writes the header of a frame.
+/// Writes the header of a frame (RFC 894). Its payload is the caller's.
 pub fn write_eth(out: &mut [u8], dst: Mac, src: Mac, kind: u16)
     requires { length out.old ≡ 14 }
     ensures written { out.new ≡ eth_header dst src kind }
