@@ -5,7 +5,7 @@ use Rattle.std.proofs.lemmas.List.Sorted.{All-permutation, sum_by-IsPermutation}
 use Rattle.std.proofs.lemmas.List.Sums.{sum_by-append}
 use Rattle.byteorder.specs.Endian.{big_bytes}
 use Rattle.vn_cksum.specs.Sums.{plus16, sum_words, words_of, sum_of, complement, folded, AreOctets, AreWords}
-use Rattle.vn_cksum.specs.Laws.{HasSixteenBits, KeepsNoOrder, AddsRows, StandsForRow, ReplacesWord, Completes, IsZeroOfZeros}
+use Rattle.vn_cksum.specs.Laws.{HasSixteenBits, KeepsNoOrder, AddsRows, StandsForRow, ReplacesWord, Completes, IsZeroOfZeros, HasTwoZeros}
 use Rattle.vn_cksum.proofs.Totals.{sum-cons, total-append, folded-folded, sum_words-total, sum_of-total, sum_of-totals}
 
 folded-small : (t : ℕ) → folded t < 65536
@@ -145,3 +145,12 @@ no-sum (a ∷ b ∷ rest) zeros =
 
 pub zeros : IsZeroOfZeros
 zeros xs = (all-zeros xs, no-sum xs)
+
+pub two_zeros : HasTwoZeros
+two_zeros front back first last even some =
+    let zero : sum_of (front ++ 0 ∷ 0 ∷ back) ≡ folded (sum (words_of front) + (0 + sum (words_of back))) =
+    sum_of-total (front ++ (big_bytes 2 0 ++ back)) (octets-field front back 0 first last) ∙ ap folded (total-field front back 0 (omega arith) even) in
+    let ones : sum_of (front ++ 255 ∷ 255 ∷ back) ≡ folded (sum (words_of front) + (65535 + sum (words_of back))) =
+    sum_of-total (front ++ (big_bytes 2 65535 ++ back)) (octets-field front back 65535 first last) ∙ ap folded (total-field front back 65535 (omega arith) even) in
+    let shape : sum (words_of front) + (65535 + sum (words_of back)) ≡ sum (words_of front) + (0 + sum (words_of back)) + 65535 = omega arith in
+    ones ∙ ap folded shape ∙ folded-more (sum (words_of front) + (0 + sum (words_of back))) (λ none. some (zero ∙ none)) ∙ sym zero

@@ -38,3 +38,8 @@ Completes = (front back : List ℕ) → AreOctets front → AreOctets back → l
 -- a sum is 0 only of all zeros
 abbrev pub IsZeroOfZeros : Type 0
 IsZeroOfZeros = (xs : List ℕ) → (sum_of xs ≡ 0) ↔ All (λ x. x ≡ 0) xs
+
+-- in a field, 65535 counts as 0 does, unless all else is zeros
+abbrev pub HasTwoZeros : Type 0
+HasTwoZeros = (front back : List ℕ) → AreOctets front → AreOctets back → length front % 2 ≡ 0
+    → sum_of (front ++ 0 ∷ 0 ∷ back) ≢ 0 → sum_of (front ++ 255 ∷ 255 ∷ back) ≡ sum_of (front ++ 0 ∷ 0 ∷ back)

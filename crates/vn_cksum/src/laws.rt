@@ -1,4 +1,4 @@
-ghost use Rattle.vn_cksum.specs.Laws.{HasSixteenBits, DefersCarries, KeepsNoOrder, AddsRows, StandsForRow, ReplacesWord, Completes, IsZeroOfZeros};
+ghost use Rattle.vn_cksum.specs.Laws.{HasSixteenBits, DefersCarries, KeepsNoOrder, AddsRows, StandsForRow, ReplacesWord, Completes, IsZeroOfZeros, HasTwoZeros};
 
 /// A sum has 16 bits, and is that of a wider total whose carries are added at the end (RFC 1071,
 /// section 2).
@@ -28,7 +28,8 @@ pub fn law_of_complement()
     ensures { Completes }
 {}
 
-/// A sum is 0 only of all zeros.
+/// A sum is 0 only of all zeros. In a field, 0xffff is 0 in another form.
 pub fn law_of_zero()
-    ensures { IsZeroOfZeros }
+    ensures zeros { IsZeroOfZeros }
+    ensures forms { HasTwoZeros }
 {}

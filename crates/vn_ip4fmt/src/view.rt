@@ -38,13 +38,16 @@ impl<'a> Ip4View<'a> {
         if octets.len() < 20 {
             return Err(IpBad::Short);
         }
+        // RFC 1122, section 3.2.1.1: "A datagram whose version number is not 4 MUST be silently discarded."
         if octets[0] / 16 != 4 {
             return Err(IpBad::Version);
         }
         let header_len = 4 * usize::from(octets[0] % 16);
+        // RFC 791, section 3.1, on the IHL: "the minimum value for a correct header is 5".
         if header_len < 20 || octets.len() < header_len {
             return Err(IpBad::HeaderLen);
         }
+        // RFC 1122, section 3.2.1.2: "A host MUST verify the IP header checksum on every received datagram".
         if sum16(&octets[..header_len]) != 0xffff {
             return Err(IpBad::Checksum);
         }
