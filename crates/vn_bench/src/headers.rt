@@ -3,17 +3,19 @@ use vn_icmpfmt::{IcmpView, read_quote, write_echo, write_error};
 use vn_ip4fmt::{Ip4Head, Ip4View, write_header};
 use vn_link::{ArpPacket, EthView, write_eth};
 use vn_types::{Ip4, Mac};
+use vn_udpfmt::{UdpView, write_udp};
 
 const SOURCE: Ip4 = Ip4(0x0a00_0001);
 
 const DESTINATION: Ip4 = Ip4(0x0a00_0002);
 
-/// The sum of what is written in each round and read from it: a request, an echo and an error about it.
+/// The sum of what is written in each round and read from it: a request, an echo, an error
+/// about it, and a UDP datagram.
 pub fn folded_headers(rounds: u64) -> u16 {
     let mut folded: u16 = 0;
     for round in 0..rounds {
         let number = (round % 65536) as u16;
-        for sum in [request_sum(number), echo_sum(number)] {
+        for sum in [request_sum(number), echo_sum(number), udp_sum(number)] {
             let sum = sum.unwrap_or(0);
             folded = sum16_parts(&folded.to_be_bytes(), &sum.to_be_bytes());
         }
@@ -65,4 +67,12 @@ fn echo_sum(number: u16) -> Option<u16> {
     write_error(&mut error, 11, 0, &datagram[..28]);
     let quote = read_quote(IcmpView::read(&error).ok()?.rest())?;
     (view.head().id == echo.id() && quote.src == SOURCE).then_some(sum16(&quote.first[..4]))
+}
+
+// Two octets of data in a UDP datagram from a port of its own: the sum of its octets.
+fn udp_sum(number: u16) -> Option<u16> {
+    let mut body = [0; 10];
+    write_udp(&mut body, SOURCE, DESTINATION, number, 7, b"hi", true);
+    let view = UdpView::read(&body, SOURCE, DESTINATION).ok()?;
+    (view.sport() == number && view.dport() == 7).then_some(sum16(&body))
 }
