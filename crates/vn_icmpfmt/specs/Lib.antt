@@ -1,0 +1,4 @@
+pub mod Messages
+pub mod Grammar
+pub mod Headers
+pub mod Quotes

@@ -1,0 +1,43 @@
+ghost use Rattle.std.specs.Prelude.{◌≡◌, ◌++◌, OnSome, drop};
+ghost use Rattle.vn_cksum.specs.Fields.{octets_of};
+ghost use Rattle.vn_icmpfmt.specs.Headers.{fields, header_of};
+ghost use Rattle.vn_icmpfmt.specs.Quotes.{quote_of};
+
+use byteorder::{BigEndian, ByteOrder};
+use vn_types::Ip4;
+
+// The octets of a header without options.
+const HEADER: usize = 20;
+
+/// What an error tells of the datagram that it is about: protocol, addresses, and the first octets of
+/// the data.
+#[derive(Clone, Copy, PartialEq, Eq)]
+pub struct Quote {
+    pub proto: u8,
+    pub src: Ip4,
+    pub dst: Ip4,
+    pub first: [u8; 8],
+}
+
+/// The quote in the octets behind the first eight of an error, or None where it is not whole.
+pub fn read_quote(rest: &[u8]) -> Option<Quote>
+    ensures quote { result ≡ quote_of rest.now }
+    // The header is written as it was read.
+    ensures spelled { OnSome result (octets_of (fields (header_of rest.now)) ++ drop 20 rest.now ≡ rest.now) }
+{
+    if rest.len() < HEADER || rest[0] / 16 != 4 {
+        return None;
+    }
+    let header = 4 * usize::from(rest[0] % 16);
+    if header < HEADER || rest.len() < header + 8 {
+        return None;
+    }
+    let mut first = [0; 8];
+    first.copy_from_slice(&rest[header..header + 8]);
+    Some(Quote {
+        proto: rest[9],
+        src: Ip4(BigEndian::read_u32(&rest[12..])),
+        dst: Ip4(BigEndian::read_u32(&rest[16..])),
+        first,
+    })
+}

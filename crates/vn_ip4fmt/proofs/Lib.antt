@@ -1,0 +1,4 @@
+pub mod Renewing
+pub mod Headers
+pub mod Flags
+pub mod Spelling

@@ -1,0 +1,5 @@
+pub mod Header
+pub mod Heads
+pub mod Datagram
+pub mod Checksum
+pub mod Laws

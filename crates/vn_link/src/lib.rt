@@ -1,0 +1,12 @@
+//! Ethernet frames and ARP packets, read and written (RFC 894, RFC 826).
+#![tactic(auto)]
+
+mod arp;
+mod ethernet;
+mod mac;
+
+pub use arp::{ArpBad, ArpPacket};
+pub use ethernet::{EthBad, EthView, write_eth};
+
+#[cfg(test)]
+mod tests;

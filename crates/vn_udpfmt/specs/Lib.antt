@@ -1,0 +1,5 @@
+pub mod Header
+pub mod Pseudo
+pub mod Datagram
+pub mod Written
+pub mod Laws
