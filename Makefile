@@ -1,6 +1,6 @@
 # The repository's commands. `make test` is the gate: every proof from nothing, the must-fail edits,
 # the tests and the programs; its last line is 'N passed, M failed'.
-.PHONY: test demo try program
+.PHONY: test demo try program bench
 
 program = crates/vnetsh/out/vnetsh
 
@@ -17,3 +17,7 @@ try:
 
 program:
 	@cd crates/vnetsh && rt run -- run < /dev/null > /dev/null
+
+# The benchmark of checksums and headers.
+bench:
+	@cd crates/vn_bench && rt run > /dev/null
