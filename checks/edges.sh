@@ -29,6 +29,19 @@ expect_output() {
     fi
 }
 
+# in_readme FILE: whether the README has it, four spaces to the right.
+in_readme() {
+    if [[ "$(cat README.md)" == *"$(sed 's/^\(.\)/    \1/' "$1")"* ]]; then
+        passed=$((passed + 1))
+    else
+        failed=$((failed + 1))
+        echo "README.md: does not have $1 as it is"
+    fi
+}
+
+in_readme "$script"
+in_readme examples/jails.out
+
 usage='usage: vnetsh run|threads|replay|project CELLS|gen N'
 : > "$scratch/nothing"
 

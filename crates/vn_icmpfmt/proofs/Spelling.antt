@@ -1,9 +1,8 @@
--- Octets one behind the other, and those of the fields of messages and headers.
-use Rattle.std.proofs.Common.{◌≡◌, ℕ, ◌+◌, ◌<◌, ◌≤◌, List, ◌∷◌, ◌++◌, length, drop, slice_index, refl, sym, ap, ◌∙◌, arith}
+-- Octets one behind the other, and those of the fields of messages.
+use Rattle.std.proofs.Common.{◌≡◌, ℕ, ◌+◌, ◌<◌, ◌≤◌, List, ◌∷◌, length, drop, slice_index, refl, sym, ap, ◌∙◌, arith}
 use Rattle.std.proofs.lemmas.List.{drop_more}
-use Rattle.vn_cksum.specs.Fields.{octets_of, number_at}
+use Rattle.vn_cksum.specs.Fields.{number_at}
 use Rattle.vn_icmpfmt.specs.Messages.{message_of, message_with}
-use Rattle.vn_icmpfmt.specs.Headers.{fields, header_of}
 
 pub cons_same : (a b : ℕ) (xs ys : List ℕ) → a ≡ b → xs ≡ ys → a ∷ xs ≡ b ∷ ys
 cons_same a b xs ys e f = ap (λ x. x ∷ xs) e ∙ ap (λ x. b ∷ x) f
@@ -23,27 +22,3 @@ message-spelled xs l h =
     (octet_before 5 _ _ xs (omega arith) (omega (arith, h 4, h 5))
     (octet_before 6 _ _ xs (omega arith) (omega (arith, h 6, h 7))
     (octet_before 7 _ _ xs (omega arith) (omega (arith, h 6, h 7)) refl)))))))
-
-pub header-spelled : (xs : List ℕ) → 20 ≤ length xs → ((i : ℕ) → slice_index xs i < 256)
-    → octets_of (fields (header_of xs)) ++ drop 20 xs ≡ xs
-header-spelled xs l h =
-    octet_before 0 _ _ xs (omega arith) (omega (arith, h 0))
-    (octet_before 1 _ _ xs (omega arith) (omega (arith, h 1))
-    (octet_before 2 _ _ xs (omega arith) (omega (arith, h 2, h 3))
-    (octet_before 3 _ _ xs (omega arith) (omega (arith, h 2, h 3))
-    (octet_before 4 _ _ xs (omega arith) (omega (arith, h 4, h 5))
-    (octet_before 5 _ _ xs (omega arith) (omega (arith, h 4, h 5))
-    (octet_before 6 _ _ xs (omega arith) (omega (arith, h 6, h 7))
-    (octet_before 7 _ _ xs (omega arith) (omega (arith, h 6, h 7))
-    (octet_before 8 _ _ xs (omega arith) (omega (arith, h 8))
-    (octet_before 9 _ _ xs (omega arith) (omega (arith, h 9))
-    (octet_before 10 _ _ xs (omega arith) (omega (arith, h 10, h 11))
-    (octet_before 11 _ _ xs (omega arith) (omega (arith, h 10, h 11))
-    (octet_before 12 _ _ xs (omega arith) (omega (arith, h 12, h 13, h 14, h 15))
-    (octet_before 13 _ _ xs (omega arith) (omega (arith, h 12, h 13, h 14, h 15))
-    (octet_before 14 _ _ xs (omega arith) (omega (arith, h 12, h 13, h 14, h 15))
-    (octet_before 15 _ _ xs (omega arith) (omega (arith, h 12, h 13, h 14, h 15))
-    (octet_before 16 _ _ xs (omega arith) (omega (arith, h 16, h 17, h 18, h 19))
-    (octet_before 17 _ _ xs (omega arith) (omega (arith, h 16, h 17, h 18, h 19))
-    (octet_before 18 _ _ xs (omega arith) (omega (arith, h 16, h 17, h 18, h 19))
-    (octet_before 19 _ _ xs (omega arith) (omega (arith, h 16, h 17, h 18, h 19)) refl)))))))))))))))))))

@@ -1,7 +1,7 @@
 -- What an error quotes: the header of a datagram and the first 64 bits of its data (RFC 792).
 use Rattle.std.specs.Prelude.{ℕ, ◌+◌, ◌==◌, not, nat_lt, if◌then◌else◌, List, length, take, drop, Option, Some, None}
+use Rattle.vn_ip4fmt.specs.Header.{header_of, header_len}
 use Rattle.vn_icmpfmt.specs.declared.quote.Quote.{Quote}
-use Rattle.vn_icmpfmt.specs.Headers.{header_of, header_len}
 
 abbrev pub quote_in : List ℕ → Quote
 quote_in xs = record {

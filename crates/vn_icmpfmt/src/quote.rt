@@ -1,6 +1,6 @@
 ghost use Rattle.std.specs.Prelude.{◌≡◌, ◌++◌, OnSome, drop};
 ghost use Rattle.vn_cksum.specs.Fields.{octets_of};
-ghost use Rattle.vn_icmpfmt.specs.Headers.{fields, header_of};
+ghost use Rattle.vn_ip4fmt.specs.Header.{fields, header_of};
 ghost use Rattle.vn_icmpfmt.specs.Quotes.{quote_of};
 
 use byteorder::{BigEndian, ByteOrder};
