@@ -3,17 +3,18 @@
 .PHONY: test demo try program bench
 
 program = crates/vnetsh/out/vnetsh
+script ?= examples/jails.vnet
 
 test:
 	@rt ci
 
-# Proves the program with all below it, builds it and runs the example.
+# Proves the program with all below it, builds it and runs the example, or another script.
 demo: program
-	@$(program) run < examples/jails.vnet
+	@$(program) run < $(script)
 
 # The same without a proof.
 try:
-	@cd crates/vnetsh && rt try -- run < ../../examples/jails.vnet
+	@cd crates/vnetsh && rt try -- run < $(abspath $(script))
 
 program:
 	@cd crates/vnetsh && rt run -- run < /dev/null > /dev/null
