@@ -24,7 +24,7 @@ fn main(rt: HostRuntime) -> ExitCode {
     ExitCode::from(status.code())
 }
 
-/// Words that can't be had, as those that are no text, are a faulty command line.
+/// Words that are no text are a faulty command line.
 fn run_program(rt: &HostRuntime) -> Status {
     let words = match words(rt) {
         Ok(words) => words,
