@@ -24,7 +24,7 @@ abbrev pub StandsForRow : Type 0
 StandsForRow = (xs ys : List ℕ) → AreOctets xs → AreOctets ys → length xs % 2 ≡ 0 → sum_of (big_bytes 2 (sum_of xs) ++ ys) ≡ sum_of (xs ++ ys)
 
 -- a new word in the place of an old one changes the sum by their folded difference (RFC 1624, equation 3),
--- unless nothing but zeros is left: then the sum is 0, and the equation gives its other form, 65535
+-- unless nothing but zeros is left: then the sum is 0
 abbrev pub ReplacesWord : Type 0
 ReplacesWord = (front back : List ℕ) (old new : ℕ) → AreWords front → AreWords back → old < 65536 → new < 65536
     → sum_words (front ++ new ∷ back) ≢ 0

@@ -28,7 +28,7 @@ pub fn law_of_complement()
     ensures { Completes }
 {}
 
-/// A sum is 0 only of all zeros. In a field, 0xffff is 0 in another form.
+/// A sum is 0 only of all zeros. In a field, 0xffff is 0 in another form, unless all else is zeros.
 pub fn law_of_zero()
     ensures zeros { IsZeroOfZeros }
     ensures forms { HasTwoZeros }

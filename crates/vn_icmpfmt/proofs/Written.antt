@@ -13,14 +13,14 @@ abbrev pub octets_with : Message → ℕ → List ℕ
 octets_with m checksum = m.kind ∷ m.code ∷ (big_bytes 2 checksum ++ (big_bytes 2 m.id ++ (big_bytes 2 m.seq ++ m.rest)))
 
 -- a message whose fields have their widths
-pub record IsMessage (m : Message) : Type 0 where
+pub record HasWidths (m : Message) : Type 0 where
   pub kind : m.kind < 256
   pub code : m.code < 256
   pub id : m.id < 65536
   pub seq : m.seq < 65536
   pub rest : AreOctets m.rest
 
-message-sums : (m : Message) → IsMessage m → sum_of (octets_with m (complement (sum_of (octets_with m 0)))) ≡ 65535
+message-sums : (m : Message) → HasWidths m → sum_of (octets_with m (complement (sum_of (octets_with m 0)))) ≡ 65535
 message-sums m w =
     let front : AreOctets (m.kind ∷ m.code ∷ []) =
     All-cons (λ x. x < 256) m.kind (m.code ∷ []) w.kind (All-cons (λ x. x < 256) m.code [] w.code (All-nil (λ x. x < 256))) in
@@ -35,13 +35,13 @@ word_of-octets w h = omega arith
 the_message : Message → ℕ → ℕ → Message
 the_message m id seq = record { kind = m.kind; code = m.code; id = id; seq = seq; rest = m.rest }
 
-same_message : (m : Message) (checksum : ℕ) → IsMessage m → message_of (octets_with m checksum) ≡ m
+same_message : (m : Message) (checksum : ℕ) → HasWidths m → message_of (octets_with m checksum) ≡ m
 unfolding the_message
 same_message m checksum w =
     ap (λ (x : ℕ). the_message m x (m.seq / 256 % 256 * 256 + (m.seq % 256 * 1 + 0))) (word_of-octets m.id w.id)
     ∙ ap (λ (x : ℕ). the_message m m.id x) (word_of-octets m.seq w.seq)
 
-message-read : (m : Message) (checksum : ℕ) → IsMessage m → sum_of (octets_with m checksum) ≡ 65535 → icmp_of (octets_with m checksum) ≡ Ok m
+message-read : (m : Message) (checksum : ℕ) → HasWidths m → sum_of (octets_with m checksum) ≡ 65535 → icmp_of (octets_with m checksum) ≡ Ok m
 message-read m checksum w e =
     let xs : List ℕ = octets_with m checksum in
     let long : nat_lt (length xs) 8 ≡ false = grind (arith, nat_tests) in
@@ -56,8 +56,8 @@ Puts old new = new ≡ take 2 old ++ (big_bytes 2 (complement (sum_of old)) ++ d
 put_whole : (m : Message) (old new : List ℕ) → old ≡ octets_with m 0 → Puts old new → new ≡ octets_with m (complement (sum_of (octets_with m 0)))
 put_whole m old new e f = f ∙ ap (λ (xs : List ℕ). take 2 xs ++ (big_bytes 2 (complement (sum_of xs)) ++ drop 4 xs)) e
 
-pub put-sums : (m : Message) (old new : List ℕ) → IsMessage m → old ≡ octets_with m 0 → Puts old new → sum_of new ≡ 65535
+pub put-sums : (m : Message) (old new : List ℕ) → HasWidths m → old ≡ octets_with m 0 → Puts old new → sum_of new ≡ 65535
 put-sums m old new w e f = ap sum_of (put_whole m old new e f) ∙ message-sums m w
 
-pub put-read : (m : Message) (old new : List ℕ) → IsMessage m → old ≡ octets_with m 0 → Puts old new → icmp_of new ≡ Ok m
+pub put-read : (m : Message) (old new : List ℕ) → HasWidths m → old ≡ octets_with m 0 → Puts old new → icmp_of new ≡ Ok m
 put-read m old new w e f = ap icmp_of (put_whole m old new e f) ∙ message-read m (complement (sum_of (octets_with m 0))) w (message-sums m w)

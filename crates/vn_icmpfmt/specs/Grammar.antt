@@ -1,9 +1,14 @@
 -- Which octets are an ICMP message, and why others are refused (RFC 792).
-use Rattle.std.specs.Prelude.{ℕ, ◌==◌, not, nat_lt, if◌then◌else◌, List, length, Option, Some, None, Result, Ok, Err}
+use Rattle.std.specs.Prelude.{◌≡◌, ℕ, ◌≤◌, ◌==◌, not, nat_lt, if◌then◌else◌, List, length, Option, Some, None, Result, Ok, Err}
 use Rattle.vn_cksum.specs.Sums.{sum_of}
 use Rattle.vn_icmpfmt.specs.declared.message.IcmpBad.{IcmpBad}
 use Rattle.vn_icmpfmt.specs.declared.message.IcmpBad.TheVariants.{Short, Checksum}
 use Rattle.vn_icmpfmt.specs.Messages.{Message, message_of}
+
+-- a message, of any length that holds its first eight octets
+pub record IsMessage (xs : List ℕ) : Type 0 where
+  pub long_enough : 8 ≤ length xs
+  pub sums_up : sum_of xs ≡ 65535
 
 -- the first refusal that applies
 abbrev pub refusal : List ℕ → Option IcmpBad

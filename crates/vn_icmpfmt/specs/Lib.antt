@@ -1,3 +1,4 @@
 pub mod Messages
 pub mod Grammar
 pub mod Quotes
+pub mod Laws

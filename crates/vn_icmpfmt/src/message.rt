@@ -32,12 +32,13 @@ impl<'a> Model for IcmpView<'a> {
 impl<'a> IcmpView<'a> {
     ghost use Rattle.std.specs.Prelude.{◌≡◌, IfOk};
     ghost use Rattle.vn_cksum.specs.Fields.{number_at};
-    ghost use Rattle.vn_icmpfmt.specs.Grammar.{icmp_of};
+    ghost use Rattle.vn_icmpfmt.specs.Grammar.{IsMessage, icmp_of};
     ghost use Rattle.vn_icmpfmt.specs.Messages.{message_with};
 
     /// The message that octets spell.
     pub fn read(body: &'a [u8]) -> Result<IcmpView<'a>, IcmpBad>
         ensures read { result ≡ icmp_of body.entry.now }
+        ensures grammar { IfOk result (λ v. IsMessage body.entry.now) }
         // A message is written as it was read.
         ensures spelled { IfOk result (λ v. message_with v (number_at 2 2 body.entry.now) ≡ body.entry.now) }
     {

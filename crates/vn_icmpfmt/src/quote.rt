@@ -1,6 +1,4 @@
-ghost use Rattle.std.specs.Prelude.{◌≡◌, ◌++◌, OnSome, drop};
-ghost use Rattle.vn_cksum.specs.Fields.{octets_of};
-ghost use Rattle.vn_ip4fmt.specs.Header.{fields, header_of};
+ghost use Rattle.std.specs.Prelude.{◌≡◌};
 ghost use Rattle.vn_icmpfmt.specs.Quotes.{quote_of};
 
 use byteorder::{BigEndian, ByteOrder};
@@ -21,9 +19,7 @@ pub struct Quote {
 
 /// The quote in the octets behind the first eight of an error, or None where it is not whole.
 pub fn read_quote(rest: &[u8]) -> Option<Quote>
-    ensures quote { result ≡ quote_of rest.now }
-    // The header is written as it was read.
-    ensures spelled { OnSome result (octets_of (fields (header_of rest.now)) ++ drop 20 rest.now ≡ rest.now) }
+    ensures { result ≡ quote_of rest.now }
 {
     if rest.len() < HEADER || rest[0] / 16 != 4 {
         return None;

@@ -49,6 +49,7 @@ fn errors_are_written_and_read(rt: HostRuntime) -> Result<(), Fail> {
 
 #[test]
 fn refusals(rt: HostRuntime) {
+    law_of_refusal();
     let rows: [(&[u8], Option<IcmpBad>); 7] = [
         (b"", Some(IcmpBad::Short)),
         (b"\x08\x00\xf7\xff\x00\x00\x00", Some(IcmpBad::Short)),

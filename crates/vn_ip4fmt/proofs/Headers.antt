@@ -1,5 +1,6 @@
 -- Headers as octets, and read back.
-use Rattle.std.proofs.Common.{◌≡◌, ◌==◌, ℕ, ◌+◌, ◌*◌, ◌/◌, ◌%◌, ◌^◌, ◌<◌, Bool, true, false, List, ◌++◌, length, length-append, refl, ap, ◌∙◌, zero-add, arith, lit<}
+use Rattle.std.proofs.Common.{◌≡◌, ◌==◌, ℕ, ◌+◌, ◌*◌, ◌/◌, ◌%◌, ◌^◌, ◌<◌, Bool, true, false, List, ◌++◌, take, length, length-append, append_assoc, refl, sym, ap, ◌∙◌, zero-add, arith, lit<}
+use Rattle.std.proofs.lemmas.List.{take_at}
 use Rattle.std.proofs.lemmas.List.Elements.{All-from_recursion}
 use Rattle.vn_cksum.specs.Fields.{octets_of, FitWidths}
 use Rattle.vn_ip4fmt.specs.declared.head.Ip4Head.{Ip4Head}
@@ -112,11 +113,16 @@ pub plain-head : (head : Ip4Head) (total checksum : ℕ) (body : List ℕ) → F
 plain-head head total checksum body fit =
     ap head_in (reads-back (plain_header head total checksum) body fit) ∙ (rw (bit-back head.df, bit-back head.mf) refl)
 
-pub plain-datagram : (head : Ip4Head) (total checksum : ℕ) (body : List ℕ) → FitWidths (fields (plain_header head total checksum))
-    → sum_of (plain_octets head total checksum) ≡ 65535 → 20 + length body ≡ total → IsDatagram (plain_octets head total checksum ++ body)
-plain-datagram head total checksum body fit sum len =
-    let told : (header_of (plain_octets head total checksum ++ body)).total ≡ total = ap (λ (h : Header). h.total) (reads-back (plain_header head total checksum) body fit) in
-    let whole : length (plain_octets head total checksum ++ body) ≡ 20 + length body = length-append (plain_octets head total checksum) body in
+pub plain-total : (head : Ip4Head) (total checksum : ℕ) (body : List ℕ) → FitWidths (fields (plain_header head total checksum))
+    → (header_of (plain_octets head total checksum ++ body)).total ≡ total
+plain-total head total checksum body fit = ap (λ (h : Header). h.total) (reads-back (plain_header head total checksum) body fit)
+
+pub plain-datagram : (head : Ip4Head) (total checksum : ℕ) (body rest : List ℕ) → FitWidths (fields (plain_header head total checksum))
+    → sum_of (plain_octets head total checksum) ≡ 65535 → 20 + length body ≡ total → IsDatagram (plain_octets head total checksum ++ (body ++ rest))
+plain-datagram head total checksum body rest fit sum len =
+    let told = plain-total head total checksum (body ++ rest) fit in
+    let whole : length (plain_octets head total checksum ++ (body ++ rest)) ≡ 20 + length (body ++ rest) = length-append (plain_octets head total checksum) (body ++ rest) in
+    let behind = length-append body rest in
     record {
       long_enough = omega arith;
       is_version_4 = refl;
@@ -126,3 +132,11 @@ plain-datagram head total checksum body fit sum len =
       holds_header = omega arith;
       is_whole = omega arith;
     }
+
+-- the octets up to the total length are the header and the body
+pub plain-whole : (head : Ip4Head) (total checksum : ℕ) (body rest : List ℕ) → 20 + length body ≡ total
+    → take total (plain_octets head total checksum ++ (body ++ rest)) ≡ plain_octets head total checksum ++ body
+plain-whole head total checksum body rest len =
+    let xs = plain_octets head total checksum in
+    let whole : length (xs ++ body) ≡ total = length-append xs body ∙ len in
+    ap (take total) (sym (append_assoc xs body rest)) ∙ take_at (xs ++ body) rest total whole

@@ -5,6 +5,14 @@ use Rattle.vn_ip4fmt.specs.declared.bad.IpBad.{IpBad}
 use Rattle.vn_ip4fmt.specs.declared.bad.IpBad.TheVariants.{Short, Version, HeaderLen, Checksum, TotalLen}
 use Rattle.vn_ip4fmt.specs.Header.{header_of, header_len}
 
+-- a header that reads, and whatever stands behind it
+pub record HasHeader (xs : List ℕ) : Type 0 where
+  pub long_enough : 20 ≤ length xs
+  pub is_version_4 : (header_of xs).version ≡ 4
+  pub has_fields : 5 ≤ (header_of xs).ihl
+  pub has_header : header_len xs ≤ length xs
+  pub sums_up : sum_of (take (header_len xs) xs) ≡ 65535
+
 -- a datagram, and whatever stands behind it
 pub record IsDatagram (xs : List ℕ) : Type 0 where
   pub long_enough : 20 ≤ length xs

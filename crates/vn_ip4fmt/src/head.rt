@@ -1,6 +1,6 @@
 use vn_types::Ip4;
 
-/// The fields of an IPv4 header but its lengths and its checksum.
+/// The fields of an IPv4 header but its version, its lengths, its reserved flag and its checksum.
 #[derive(Clone, Copy, PartialEq, Eq)]
 pub struct Ip4Head {
     pub tos: u8,

@@ -1,7 +1,7 @@
-ghost use Rattle.std.specs.Prelude.{◌≡◌, ℕ, ◌<◌, ◌≤◌, ◌+◌, ◌*◌, [], ◌∷◌, ◌++◌, List, length};
+ghost use Rattle.std.specs.Prelude.{◌≡◌, ℕ, ◌<◌, ◌≤◌, ◌+◌, ◌*◌, [], ◌∷◌, ◌++◌, List, length, take};
 ghost use Rattle.vn_cksum.specs.Fields.{FitWidths, octets_of};
 ghost use Rattle.vn_cksum.specs.Sums.{sum_of};
-ghost use Rattle.vn_ip4fmt.specs.Header.{fields};
+ghost use Rattle.vn_ip4fmt.specs.Header.{fields, header_of, header_len};
 ghost use Rattle.vn_ip4fmt.specs.Heads.{bit, head_of, plain_header, plain_octets, plain_checksum};
 ghost use Rattle.vn_ip4fmt.specs.Datagram.{IsDatagram};
 
@@ -18,8 +18,12 @@ pub fn write_header(out: &mut [u8], head: &Ip4Head, total: u16)
     requires offset { head.now.offset < 8192 }
     ensures written { out.new ≡ plain_octets head.now total (plain_checksum head.now total) }
     ensures sums_up { sum_of out.new ≡ 65535 }
-    // With a body of the length that was told, it is a datagram, and is read as it was given.
-    ensures reads { (body : List ℕ) → 20 + length body ≡ total → IsDatagram (out.new ++ body) }
+    // With a body of the length that was told, it is a datagram, and is read as it was given, whatever stands behind.
+    ensures reads { (body rest : List ℕ) → 20 + length body ≡ total → IsDatagram (out.new ++ (body ++ rest)) }
+    ensures parts { (body rest : List ℕ) → 20 + length body ≡ total
+        → (header_len (out.new ++ (body ++ rest)) ≡ 20)
+        × ((header_of (out.new ++ (body ++ rest))).total ≡ total)
+        × (take total (out.new ++ (body ++ rest)) ≡ out.new ++ body) }
     ensures read_back { (body : List ℕ) → head_of (out.new ++ body) ≡ head.now }
 {
     write_fields(out, *head, total);

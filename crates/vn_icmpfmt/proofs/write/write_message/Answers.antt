@@ -1,13 +1,13 @@
 use Rattle.std.proofs.Common.{arith}
 use Rattle.vn_cksum.proofs.Totals.{octets-slice}
 use Rattle.vn_icmpfmt.specs.Messages.{Message}
-use Rattle.vn_icmpfmt.proofs.Written.{IsMessage, put-sums, put-read}
+use Rattle.vn_icmpfmt.proofs.Written.{HasWidths, put-sums, put-read}
 use Rattle.vn_icmpfmt.proofs.write.write_message.Goals as goal
 
 pub returns-clause-sum : goal.returns-clause-sum
 returns-clause-sum c =
     let m : Message = record { kind = c.args.kind; code = c.args.code; id = c.args.id; seq = c.args.seq; rest = c.args.rest.now } in
-    let fits : IsMessage m = record {
+    let fits : HasWidths m = record {
       kind = omega arith;
       code = omega arith;
       id = omega arith;
@@ -19,7 +19,7 @@ returns-clause-sum c =
 pub returns-clause-read_back : goal.returns-clause-read_back
 returns-clause-read_back c =
     let m : Message = record { kind = c.args.kind; code = c.args.code; id = c.args.id; seq = c.args.seq; rest = c.args.rest.now } in
-    let fits : IsMessage m = record {
+    let fits : HasWidths m = record {
       kind = omega arith;
       code = omega arith;
       id = omega arith;
