@@ -41,6 +41,10 @@ fn two_stacks(rt: HostRuntime) -> Result<(), Fail> {
         (0, addr(FAR, [10, 0, 1, 255], 31), None),
         (0, addr(NEAR, [10, 0, 0, 2], 24), None),
         (9, addr(NEAR, [10, 0, 0, 1], 30), None),
+        (9, addr(FAR, [223, 255, 255, 1], 24), None),
+        (9, addr(FAR, [10, 1, 0, 0], 32), None),
+        (9, addr(FAR, [10, 2, 0, 3], 30), Some(Errno::Inval)),
+        (9, addr(FAR, [10, 2, 0, 2], 30), None),
     ];
     let mut addrs = Addrs::new(rt.alloc()).ok().ok_or("no memory")?;
     for (sid, addr, want) in adds {
@@ -105,5 +109,9 @@ fn two_stacks(rt: HostRuntime) -> Result<(), Fail> {
     assert!(rt; addrs.at(here, 1) == Some(addr(NEAR, [10, 0, 0, 2], 24)));
     assert!(rt; addrs.at(here, 2).is_none());
     assert!(rt; addrs.first(Sid(9), NEAR) == one);
+    assert!(rt; addrs.at(Sid(9), 1) == Some(addr(FAR, [223, 255, 255, 1], 24)));
+    assert!(rt; addrs.at(Sid(9), 2) == Some(addr(FAR, [10, 1, 0, 0], 32)));
+    assert!(rt; addrs.at(Sid(9), 3) == Some(addr(FAR, [10, 2, 0, 2], 30)));
+    assert!(rt; addrs.at(Sid(9), 4).is_none());
     Ok(())
 }

@@ -1,8 +1,9 @@
 -- A frame's octets are its header and its payload.
-use Rattle.std.proofs.Common.{◌≡◌, ℕ, ◌<◌, ◌≤◌, List, ◌++◌, length, drop, refl, ap, ◌∙◌, append_assoc, arith}
+use Rattle.std.proofs.Common.{◌≡◌, ℕ, ◌<◌, ◌≤◌, false, nat_lt, List, ◌++◌, length, drop, Ok, refl, ap, ◌∙◌, append_assoc, length-append, arith}
+use Rattle.std.proofs.lemmas.Bool.Decides.{nat_tests}
 use Rattle.byteorder.specs.Endian.{big_bytes}
 use Rattle.vn_types.specs.declared.address.Mac.{Mac}
-use Rattle.vn_link.specs.Frames.{EthFrame, frame_of, eth_header}
+use Rattle.vn_link.specs.Frames.{EthFrame, frame_of, eth_of, eth_header}
 use Rattle.vn_link.proofs.Spelling.{AreOctets, number_at_2, last_field, field_before, behind_field, leading_field, leading_number}
 
 abbrev the_frame : List ℕ → List ℕ → ℕ → List ℕ → EthFrame
@@ -21,7 +22,7 @@ same_frame : (dst src : Mac) (kind : ℕ) (payload : List ℕ) (a b : List ℕ) 
 same_frame dst src kind payload a b n p e f g h =
     ap (λ x. the_frame x b n p) e ∙ ap (λ x. the_frame dst.0 x n p) f ∙ ap (λ x. the_frame dst.0 src.0 x p) g ∙ ap (λ x. the_frame dst.0 src.0 kind x) h
 
-pub frame_of-header : (dst src : Mac) (kind : ℕ) (payload : List ℕ) → length dst.0 ≡ 6 → length src.0 ≡ 6 → kind < 65536
+frame_of-header : (dst src : Mac) (kind : ℕ) (payload : List ℕ) → length dst.0 ≡ 6 → length src.0 ≡ 6 → kind < 65536
     → frame_of (eth_header dst src kind ++ payload) ≡ record { dst = dst; src = src; kind = kind; payload = payload }
 frame_of-header dst src kind payload d s k =
     let xs : List ℕ = eth_header dst src kind ++ payload in
@@ -35,3 +36,10 @@ frame_of-header dst src kind payload d s k =
     (leading_field 6 6 src.0 _ xs s at_src)
     (leading_number 2 12 kind payload xs k at_kind)
     at_payload
+
+pub eth_of-header : (dst src : Mac) (kind : ℕ) (payload : List ℕ) → length dst.0 ≡ 6 → length src.0 ≡ 6 → kind < 65536
+    → eth_of (eth_header dst src kind ++ payload) ≡ Ok (record { dst = dst; src = src; kind = kind; payload = payload })
+eth_of-header dst src kind payload d s k =
+    let whole : 14 ≤ length (eth_header dst src kind ++ payload) = simp (length-append) (omega (arith, d, s)) in
+    let long : nat_lt (length (eth_header dst src kind ++ payload)) 14 ≡ false = grind (arith, nat_tests, whole) in
+    rw long (ap Ok (frame_of-header dst src kind payload d s k))

@@ -1,5 +1,5 @@
 -- An ARP packet about Ethernet and IPv4 (RFC 826, "Packet format"; its field names have `$` for `_`).
-use Rattle.std.specs.Prelude.{ℕ, not, ◌&&◌, ◌==◌, List, [], ◌∷◌, ◌++◌, length, nat_lt, Option, Result}
+use Rattle.std.specs.Prelude.{◌≡◌, ℕ, ◌≤◌, ◌⊎◌, not, ◌&&◌, ◌==◌, List, [], ◌∷◌, ◌++◌, length, nat_lt, Option, Result}
 use Rattle.byteorder.specs.Endian.{big_bytes}
 use Rattle.vn_link.specs.declared.arp.ArpBad.{ArpBad}
 use Rattle.vn_link.specs.declared.arp.ArpBad.TheVariants.{Short, Hrd, Pro, Hln, Pln, Op}
@@ -46,7 +46,16 @@ packet_of octets = record {
   tpa = record { 0 = number ar_tpa octets };
 }
 
--- a packet of Ethernet (1) and IPv4 (0x0800) that is a request (1) or a reply (2) is read
+-- a packet of Ethernet (1) and IPv4 (0x0800) that is a request (1) or a reply (2), and whatever stands behind it
+pub record IsPacket (octets : List ℕ) : Type 0 where
+  pub long_enough : 28 ≤ length octets
+  pub is_of_ethernet : number ar_hrd octets ≡ 1
+  pub is_of_ipv4 : number ar_pro octets ≡ 0x0800
+  pub has_hardware_length : number ar_hln octets ≡ 6
+  pub has_protocol_length : number ar_pln octets ≡ 4
+  pub is_request_or_reply : (number ar_op octets ≡ 1) ⊎ (number ar_op octets ≡ 2)
+
+-- the first refusal that applies
 abbrev pub arp_refusal : List ℕ → Option ArpBad
 arp_refusal octets = first_refusal (
     (nat_lt (length octets) (up_to ar_tpa), Short)

@@ -1,5 +1,5 @@
 ghost use Rattle.byteorder.specs.Endian.{big_bytes};
-ghost use Rattle.std.specs.Prelude.{◌≡◌, ◌<◌, ◌++◌, ◌^◌, ◌⊎◌, ◌≤◌, IfNone, IfOk, drop, length};
+ghost use Rattle.std.specs.Prelude.{◌≡◌, ℕ, ◌<◌, ◌++◌, ◌^◌, ◌⊎◌, ◌≤◌, List, IfNone, IfOk, drop, length};
 ghost use Rattle.vn_link.specs.Packets.{arp_refusal};
 
 use crate::mac::leading_mac;
@@ -43,11 +43,12 @@ pub struct ArpPacket {
 }
 
 impl ArpPacket {
-    ghost use Rattle.vn_link.specs.Packets.{arp_octets, arp_of};
+    ghost use Rattle.vn_link.specs.Packets.{IsPacket, arp_octets, arp_of};
 
     /// The packet that octets spell. Those behind it count for nothing.
     pub fn read(octets: &[u8]) -> Result<ArpPacket, ArpBad>
         ensures read { result ≡ arp_of octets.now }
+        ensures grammar { IfOk result (λ p. IsPacket octets.now) }
         // A packet is written as it was read.
         ensures spelled { IfOk result (λ p. arp_octets p ++ drop 28 octets.now ≡ octets.now) }
     {
@@ -68,8 +69,8 @@ impl ArpPacket {
         requires op { (self.now.op ≡ 1) ⊎ (self.now.op ≡ 2) }
         requires room { length out.old ≡ 28 }
         ensures written { out.new ≡ arp_octets self.now }
-        // What is written is read.
-        ensures read_back { arp_of out.new ≡ Ok self.now }
+        // What is written is read, whatever stands behind it.
+        ensures read_back { (rest : List ℕ) → arp_of (out.new ++ rest) ≡ Ok self.now }
     {
         let (kinds, rest) = out.split_at_mut(2);
         BigEndian::write_u16(kinds, ETHERNET);

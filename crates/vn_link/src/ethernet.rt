@@ -1,5 +1,5 @@
 ghost use Rattle.std.specs.Prelude.{◌≡◌, ◌++◌, List, ℕ, length, IfOk};
-ghost use Rattle.vn_link.specs.Frames.{eth_header, frame_of};
+ghost use Rattle.vn_link.specs.Frames.{eth_header, eth_of};
 
 use crate::mac::leading_mac;
 use byteorder::{BigEndian, ByteOrder};
@@ -33,8 +33,6 @@ impl<'a> Model for EthView<'a> {
 }
 
 impl<'a> EthView<'a> {
-    ghost use Rattle.vn_link.specs.Frames.{eth_header, eth_of};
-
     /// The frame that octets spell.
     pub fn read(frame: &'a [u8]) -> Result<EthView<'a>, EthBad>
         ensures read { result ≡ eth_of frame.entry.now }
@@ -81,12 +79,12 @@ pub fn write_eth(out: &mut [u8], dst: Mac, src: Mac, kind: u16)
     requires { length out.old ≡ 14 }
     ensures written { out.new ≡ eth_header dst src kind }
     // What is written is read, whatever payload follows.
-    ensures read_back { (payload : List ℕ) → frame_of (out.new ++ payload) ≡ record {
+    ensures read_back { (payload : List ℕ) → eth_of (out.new ++ payload) ≡ Ok (record {
       dst = dst;
       src = src;
       kind = kind;
       payload = payload;
-    } }
+    }) }
 {
     let (head, rest) = out.split_at_mut(6);
     head.copy_from_slice(&dst.0);

@@ -3,10 +3,12 @@
 
 mod arp;
 mod ethernet;
+mod laws;
 mod mac;
 
 pub use arp::{ArpBad, ArpPacket};
 pub use ethernet::{EthBad, EthView, write_eth};
+pub use laws::law_of_refusal;
 
 #[cfg(test)]
 mod tests;

@@ -9,8 +9,7 @@ use std::alloc::Global;
 use std::marker::Model;
 use vn_types::{Errno, NoMemory, Sid, make_room};
 
-/// The loopback queues of all stacks, seen as a list of stacks by their numbers. Only `new` and `make`
-/// take memory.
+/// The loopback queues of all stacks, seen as a list of stacks by their numbers. Only `make` takes memory.
 #[derive(Drop)]
 pub struct Loops {
     rows: Vec<Row>,

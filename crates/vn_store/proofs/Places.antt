@@ -1,13 +1,9 @@
 -- The place of a name among the declared variables, and the value at that place.
-use Rattle.std.proofs.Common.{◌≡◌, ℕ, zero, suc, ◌<◌, Bool, true, false, cond, ◌&&◌, List, [], ◌∷◌, length, get_or, position, Some, IfSome, slice_get, slice_set, String, string_bytes, refl, sym, ap, ◌∙◌, arith}
-use Rattle.std.specs.List.{AllByRecursion, IsDistinct}
+use Rattle.std.proofs.Common.{◌≡◌, ℕ, zero, suc, ◌<◌, Bool, true, false, cond, ◌&&◌, List, [], ◌∷◌, length, get_or, position, Some, IfSome, slice_get, slice_set, String, string_bytes, refl, ap, ◌∙◌, arith}
 use Rattle.std.specs.Str.{bytes_eq}
-use Rattle.std.specs.String.{string_eq}
 use Rattle.std.specs.Map.{keys_of, lookup}
 use Rattle.std.proofs.lemmas.Bool.{and_parts, false≢true}
 use Rattle.std.proofs.lemmas.List.Quantifiers.{position-Some}
-use Rattle.std.proofs.lemmas.Map.Keys.{IsDistinct-head, IsDistinct-tail}
-use Rattle.std.proofs.lemmas.Slice.Eq.{bytes_eq-Decides}
 use Rattle.vn_store.specs.declared.bounds.Bounds.{Bounds}
 use Rattle.vn_store.specs.Limits.{allows}
 use Rattle.vn_store.specs.Variables.{bounds_of, value_of, with_value, declarations, named, are_values}
@@ -60,26 +56,14 @@ module _ {Y : Type 0} (name : List ℕ) where
   allowed-at (e ∷ es) zero (v ∷ vs) at kept = rw at ((and_parts (allows e.1 v) _ kept).0)
   allowed-at (e ∷ es) (suc i) (v ∷ vs) at kept = rw at.0 (allowed-at es i vs at.1 (and_parts (allows e.1 v) _ kept).1)
 
-  -- where no variable has the name, none changes
-  unchanged : (value : ℕ) (es : List (String Y × Bounds)) (vs : List ℕ) → AllByRecursion (λ k. is_name k ≡ false) (keys_of es) → with_value name value (named (declarations es) vs) ≡ named (declarations es) vs
-  unchanged value [] vs none = refl
-  unchanged value (e ∷ es) [] none = refl
-  unchanged value (e ∷ es) (v ∷ vs) none = rw none.0 (ap (λ rest. record { name = string_bytes e.0; value = v } ∷ rest) (unchanged value es vs none.1))
-
-  others_apart : (k : String Y) (ks : List (String Y)) → is_name k ≡ true → AllByRecursion (λ y. string_eq k y ≡ false) ks → AllByRecursion (λ y. is_name y ≡ false) ks
-  others_apart k [] at apart = tt
-  others_apart k (y ∷ ks) at apart = (ap (λ q. bytes_eq q (string_bytes y)) ((bytes_eq-Decides name (string_bytes k)).0 at) ∙ apart.0, others_apart k ks at apart.1)
-
   -- the value of the variable changes where that at its place does
-  pub with_value-at : (value : ℕ) (es : List (String Y × Bounds)) (i : ℕ) (vs : List ℕ) → IsAt es i → IsDistinct string_eq (keys_of es) → are_values (declarations es) vs ≡ true
+  pub with_value-at : (value : ℕ) (es : List (String Y × Bounds)) (i : ℕ) (vs : List ℕ) → IsAt es i → are_values (declarations es) vs ≡ true
       → named (declarations es) (slice_set vs i value) ≡ with_value name value (named (declarations es) vs)
-  with_value-at value [] i vs at distinct kept = absurd at
-  with_value-at value (e ∷ es) i [] at distinct kept = absurd (false≢true kept)
-  with_value-at value (e ∷ es) zero (v ∷ vs) at distinct kept =
-      rw at (ap (λ rest. record { name = string_bytes e.0; value = value } ∷ rest) (sym (unchanged value es vs (others_apart e.0 (keys_of es) at (IsDistinct-head string_eq e.0 (keys_of es) distinct)))))
-  with_value-at value (e ∷ es) (suc i) (v ∷ vs) at distinct kept =
-      rw at.0 (ap (λ rest. record { name = string_bytes e.0; value = v } ∷ rest)
-      (with_value-at value es i vs at.1 (IsDistinct-tail string_eq e.0 (keys_of es) distinct) (and_parts (allows e.1 v) _ kept).1))
+  with_value-at value [] i vs at kept = absurd at
+  with_value-at value (e ∷ es) i [] at kept = absurd (false≢true kept)
+  with_value-at value (e ∷ es) zero (v ∷ vs) at kept = rw at refl
+  with_value-at value (e ∷ es) (suc i) (v ∷ vs) at kept =
+      rw at.0 (ap (λ rest. record { name = string_bytes e.0; value = v } ∷ rest) (with_value-at value es i vs at.1 (and_parts (allows e.1 v) _ kept).1))
 
   -- a value that the bounds allow may stand there
   pub are_values-at : (value : ℕ) (b : Bounds) (es : List (String Y × Bounds)) (i : ℕ) (vs : List ℕ) → IsAt es i → bounds_of name (declarations es) ≡ Some b → allows b value ≡ true

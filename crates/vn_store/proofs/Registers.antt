@@ -1,10 +1,9 @@
 -- What a registry holds, by the bounds under the names and the rows of values that it keeps.
 use Rattle.std.proofs.Common.{◌≡◌, ℕ, suc, ◌<◌, ◌≤◌, Bool, true, false, List, [], ◌∷◌, ◌++◌, map, length, Option, Some, None, Result, Ok, Err, OnOk, OnErr, IfSome, IsSome, IsTrue, option_map, is_some, String, string_bytes, refl, sym, ap, subst, ◌∙◌, ⊎_elim, arith}
 use Rattle.std.specs.Option.{option_and_then, ForSome}
-use Rattle.std.specs.List.{IsDistinct}
 use Rattle.std.specs.Str.{bytes_eq}
 use Rattle.std.specs.String.{string_eq}
-use Rattle.std.specs.Map.{keys_of, values_of, lookup}
+use Rattle.std.specs.Map.{values_of, lookup}
 use Rattle.std.proofs.lemmas.Bool.{false≢true, and_parts, cases_eq}
 use Rattle.std.proofs.lemmas.List.{map-append, append-nil}
 use Rattle.indexmap.specs.IndexMap.{insert_entry}
@@ -83,17 +82,17 @@ module _ {Y : Type 0} where
 
     -- ---- a value that is set there
 
-    row_set : (value : ℕ) (r : Option (List ℕ)) → IsDistinct string_eq (keys_of es) → is_row (declarations es) r ≡ true
+    row_set : (value : ℕ) (r : Option (List ℕ)) → is_row (declarations es) r ≡ true
         → option_map (named (declarations es)) (with_value_at i value r) ≡ option_map (with_value name value) (option_map (named (declarations es)) r)
-    row_set value None distinct kept = refl
-    row_set value (Some vs) distinct kept = ap Some (with_value-at name value es i vs at distinct kept)
+    row_set value None kept = refl
+    row_set value (Some vs) kept = ap Some (with_value-at name value es i vs at kept)
 
-    pub of-set : (value q : ℕ) (rows rows' : List (Option (List ℕ))) → IsDistinct string_eq (keys_of es) → is_row (declarations es) (row rows q) ≡ true → row rows' q ≡ with_value_at i value (row rows q)
+    pub of-set : (value q : ℕ) (rows rows' : List (Option (List ℕ))) → is_row (declarations es) (row rows q) ≡ true → row rows' q ≡ with_value_at i value (row rows q)
         → of (held es rows') q ≡ option_map (with_value name value) (of (held es rows) q)
-    of-set value q rows rows' distinct kept is =
+    of-set value q rows rows' kept is =
         shown-row (declarations es) rows' q
         ∙ ap (option_map (named (declarations es))) is
-        ∙ row_set value (row rows q) distinct kept
+        ∙ row_set value (row rows q) kept
         ∙ ap (option_map (with_value name value)) (sym (shown-row (declarations es) rows q))
 
     pub is_row-set : (value : ℕ) (b : Bounds) (r : Option (List ℕ)) → bounds_of name (declarations es) ≡ Some b → allows b value ≡ true → is_row (declarations es) r ≡ true → is_row (declarations es) (with_value_at i value r) ≡ true

@@ -21,9 +21,10 @@ bounds_of name declared = lookup (bytes_eq name) declared
 abbrev pub value_of : List ℕ → List Variable → Option ℕ
 value_of name variables = option_map (λ (v : Variable). v.value) (find (λ (v : Variable). bytes_eq name v.name) variables)
 
--- the variable of that name has the value, and each other variable has its own
+-- the first variable of that name has the value, and each other variable has its own
 abbrev pub with_value : List ℕ → ℕ → List Variable → List Variable
-with_value name value variables = map (λ (v : Variable). if bytes_eq name v.name then record v { value = value } else v) variables
+with_value name value [] = []
+with_value name value (v ∷ variables) = if bytes_eq name v.name then record v { value = value } ∷ variables else v ∷ with_value name value variables
 
 -- one variable more
 abbrev pub with_variable : List ℕ → ℕ → List Variable → List Variable

@@ -1,4 +1,4 @@
-use Rattle.std.proofs.Common.{ap, ◌∙◌, arith}
+use Rattle.std.proofs.Common.{ℕ, List, ◌++◌, ap, ◌∙◌, arith}
 use Rattle.std.proofs.lemmas.Grind.{common_steps}
 use Rattle.vn_link.specs.Packets.{arp_of}
 use Rattle.vn_link.proofs.arp.ArpPacket.write.Goals as goal
@@ -8,9 +8,9 @@ pub returns-clause-written : goal.returns-clause-written
 returns-clause-written c = grind (arith, common_steps)
 
 pub returns-clause-read_back : goal.returns-clause-read_back
-returns-clause-read_back c =
-    ap arp_of (returns-clause-written c)
-    ∙ arp_of-octets c.args.self.now (record {
+returns-clause-read_back c = λ rest.
+    ap (λ (ys : List ℕ). arp_of (ys ++ rest)) (returns-clause-written c)
+    ∙ arp_of-octets c.args.self.now rest (record {
       op = c.requires.op;
       sha = c.write_addresses.ensures.mac;
       spa = c.write_addresses.ensures.ip;

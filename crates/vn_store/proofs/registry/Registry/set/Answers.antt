@@ -34,7 +34,7 @@ returns-else-not-allows-clause-fault c =
 pub returns-else-not-allows-clause-set : goal.returns-else-not-allows-clause-set
 returns-else-not-allows-clause-set c =
     rw (← c.self.view_is) (of-set c.args.name.now c.self.inside.declared.entries c.in-Some.place
-    (IsAt-from_position c.args.name.now c.self.inside.declared.entries c.in-Some.place (sym c.in-Some.ensures.index)) c.args.value c.args.sid.0 c.self.inside.values c.set.new.self c.in-Some.ensures.unique
+    (IsAt-from_position c.args.name.now c.self.inside.declared.entries c.in-Some.place (sym c.in-Some.ensures.index)) c.args.value c.args.sid.0 c.self.inside.values c.set.new.self
     (c.self.invariant.1 c.args.sid.0) c.set.ensures.set)
 
 pub returns-else-not-allows-clause-others : goal.returns-else-not-allows-clause-others
