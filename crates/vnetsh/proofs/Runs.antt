@@ -1,6 +1,7 @@
 -- The lines of a script are run one after another.
-use Rattle.std.proofs.Common.{◌≡◌, ℕ, ◌+◌, ◌<◌, ◌≤◌, ◌++◌, ◌&&◌, Bool, true, false, List, [], ◌∷◌, length, map, take, get_or, IsTrue, suc, refl, sym, ap, ap₂, subst, ◌∙◌, arith, zero, length-append}
+use Rattle.std.proofs.Common.{◌≡◌, ℕ, ◌+◌, ◌<◌, ◌≤◌, ◌++◌, ◌&&◌, List, [], ◌∷◌, length, map, take, get_or, IsTrue, suc, refl, sym, ap, ap₂, subst, ◌∙◌, arith, zero, length-append}
 use Rattle.std.specs.List.{flat_map, list_all}
+use Rattle.std.proofs.lemmas.Bool.{and_parts}
 use Rattle.std.proofs.lemmas.List.{length-map, map-append}
 use Rattle.std.proofs.lemmas.List.Folds.{list_all-append, length-flat_map-take}
 use Rattle.vn_types.specs.Paths.{Path}
@@ -21,18 +22,10 @@ use Rattle.vn_shell.specs.Readings.{event_of, events_of, lane_lines, lines_in}
 pub never_long : (n : ℕ) (m : Machine) → IsLong n m → length m.events < 200000 → ⊥
 never_long n m long room = omega (arith, long.counted, long.full)
 
-left : (a b : Bool) → IsTrue (a && b) → IsTrue a
-left true b is = refl
-left false b is = is
-
-right : (a b : Bool) → IsTrue (a && b) → IsTrue b
-right true b is = is
-right false b is = cc
-
 pub valid_line : (lines : List LaneLine) (i : ℕ) (x : LaneLine) → IsValid (map event_of lines) → i < length lines → x ≡ get_or lines i x → IsValidEvent (event_of x)
 valid_line [] i x valid within is = absurd (omega arith)
-valid_line (l ∷ ls) zero x valid within is = subst (λ y. IsValidEvent (event_of y)) (sym is) (left (is_valid_event (event_of l)) (list_all is_valid_event (map event_of ls)) valid)
-valid_line (l ∷ ls) (suc i) x valid within is = valid_line ls i x (right (is_valid_event (event_of l)) (list_all is_valid_event (map event_of ls)) valid) (omega arith) is
+valid_line (l ∷ ls) zero x valid within is = subst (λ y. IsValidEvent (event_of y)) (sym is) (and_parts (is_valid_event (event_of l)) (list_all is_valid_event (map event_of ls)) valid).0
+valid_line (l ∷ ls) (suc i) x valid within is = valid_line ls i x (and_parts (is_valid_event (event_of l)) (list_all is_valid_event (map event_of ls)) valid).1 (omega arith) is
 
 split : (part : Part) (parts : List Part) → list_all is_valid_event (map event_of (lines_in part ++ flat_map lines_in parts)) ≡ (list_all is_valid_event (map event_of (lines_in part)) && list_all is_valid_event (map event_of (flat_map lines_in parts)))
 split part parts =
@@ -43,9 +36,9 @@ pub valid_part : (parts : List Part) (i : ℕ) (x : Part) → IsValid (map event
 valid_part [] i x valid within is = absurd (omega arith)
 valid_part (p ∷ ps) zero x valid within is =
     subst (λ y. IsValid (map event_of (lines_in y))) (sym is)
-    (left (list_all is_valid_event (map event_of (lines_in p))) (list_all is_valid_event (map event_of (flat_map lines_in ps))) (subst IsTrue (split p ps) valid))
+    (and_parts (list_all is_valid_event (map event_of (lines_in p))) (list_all is_valid_event (map event_of (flat_map lines_in ps))) (subst IsTrue (split p ps) valid)).0
 valid_part (p ∷ ps) (suc i) x valid within is =
-    valid_part ps i x (right (list_all is_valid_event (map event_of (lines_in p))) (list_all is_valid_event (map event_of (flat_map lines_in ps))) (subst IsTrue (split p ps) valid)) (omega arith) is
+    valid_part ps i x (and_parts (list_all is_valid_event (map event_of (lines_in p))) (list_all is_valid_event (map event_of (flat_map lines_in ps))) (subst IsTrue (split p ps) valid)).1 (omega arith) is
 
 pub room_for_part : (old now : List Event) (parts : List Part) (i : ℕ) (x : Part) → now ≡ old ++ map event_of (flat_map lines_in (take i parts)) → i < length parts → x ≡ get_or parts i x → length old + length (flat_map lines_in parts) ≤ 200000
     → length now + length (lines_in x) ≤ 200000
