@@ -1,14 +1,13 @@
 -- The ancestors of a path: which paths it is under, and its parent.
-use Rattle.std.proofs.Common.{◌∙◌, ◌≡◌, ◌==◌, ℕ, zero, suc, ◌≤◌, ◌-◌, ◌+◌, ◌<◌, get_or, add-one, length-take, length, take, Bool, true, false, ◌&&◌, ◌||◌, not, List, [], ◌∷◌, ◌++◌, map, refl, sym, ap, arith}
-use Rattle.std.proofs.Math.Seq.{take-suc}
+use Rattle.std.proofs.Common.{◌∙◌, ◌≡◌, ℕ, zero, suc, ◌≤◌, ◌-◌, ◌+◌, length-take, length, take, Bool, true, false, ◌&&◌, ◌||◌, not, List, [], ◌∷◌, ◌++◌, map, refl, sym, ap, arith}
 use Rattle.std.specs.List.{list_any, list_all}
 use Rattle.std.specs.Str.{bytes_eq}
 use Rattle.std.proofs.lemmas.List.Folds.{list_any-append}
+use Rattle.std.proofs.lemmas.Bool.{and_parts, and_from}
 use Rattle.std.proofs.lemmas.Bool.Decides.{nat_tests}
 use Rattle.vn_types.specs.PathOrder.{path_eq-Decides}
 use Rattle.vn_types.specs.Words.{is_label}
-use Rattle.vn_types.specs.Paths.{Path, path_eq, is_host, is_under, is_path, joined, glued, above, first_or_host, parent}
-use Rattle.vn_types.specs.PathTexts.{and_first, and_second, joined-append}
+use Rattle.vn_types.specs.Paths.{Path, path_eq, is_host, is_under, is_path, above, first_or_host, parent}
 
 pub is_host-is : (p : Path) → is_host p ≡ true → p ≡ []
 unfolding is_host
@@ -80,7 +79,11 @@ any-above (l ∷ n ∷ q) (x ∷ p) =
 
 -- ---- the parent
 
-parent-cons : (l n : List ℕ) (q : Path) → parent (l ∷ n ∷ q) ≡ l ∷ parent (n ∷ q)
+pub parent-none : parent [] ≡ []
+unfolding above
+parent-none = refl
+
+pub parent-cons : (l n : List ℕ) (q : Path) → parent (l ∷ n ∷ q) ≡ l ∷ parent (n ∷ q)
 unfolding above
 parent-cons l n q = by (above (n ∷ q))
   where
@@ -142,7 +145,7 @@ unfolding above
 take_none zero = refl
 take_none (suc k) = refl
 
-pub parent-take : (p : Path) (k : ℕ) → k ≡ length p - 1 → take k p ≡ parent p
+parent-take : (p : Path) (k : ℕ) → k ≡ length p - 1 → take k p ≡ parent p
 parent-take [] k e = take_none k
 parent-take (l ∷ q) k e = parent-init (l ∷ q) k (omega arith)
 
@@ -159,35 +162,18 @@ above-parent l n (m ∷ q) =
     by [] e = cc
     by (x ∷ r) e = refl
 
--- ---- labels one after another
+-- ---- fewer labels
 
-pub labels-take : (p : Path) (i : ℕ) → list_all is_label p ≡ true → list_all is_label (take i p) ≡ true
+labels-take : (p : Path) (i : ℕ) → list_all is_label p ≡ true → list_all is_label (take i p) ≡ true
 labels-take [] zero h = refl
 labels-take [] (suc i) h = refl
 labels-take (l ∷ p) zero h = refl
-labels-take (l ∷ p) (suc i) h = both (is_label l) (list_all is_label (take i p)) (and_first _ (list_all is_label p) h) (labels-take p i (and_second (is_label l) _ h))
-  where
-    both : (a b : Bool) → a ≡ true → b ≡ true → (a && b) ≡ true
-    both a b f g = grind arith
-
-joined-single : (l : List ℕ) → joined (l ∷ []) ≡ l
-unfolding joined
-joined-single l = refl
-
-label-single : (l : List ℕ) → is_label l ≡ true → list_all is_label (l ∷ []) ≡ true
-label-single l h = grind (arith, h)
-
--- the text of one label more
-pub joined-next : (p : Path) (i : ℕ) (l : List ℕ) → i < length p → l ≡ get_or p i l → is_label l ≡ true → list_all is_label p ≡ true → glued (joined (take i p)) l ≡ joined (take (i + 1) p)
-joined-next p i l here at label all =
-    let step : take (i + 1) p ≡ take i p ++ l ∷ [] = rw add-one (take-suc p i l here ∙ ap (λ x. take i p ++ x ∷ []) (sym at)) in
-    ap (glued (joined (take i p))) (sym (joined-single l)) ∙ sym (joined-append (take i p) (l ∷ []) (labels-take p i all) (label-single l label)) ∙ ap joined (sym step)
+labels-take (l ∷ p) (suc i) h = and_from _ _ (and_parts _ _ h).0 (labels-take p i (and_parts _ _ h).1)
 
 -- fewer labels are a path too
-pub path-take : (p : Path) (i : ℕ) → is_path p ≡ true → is_path (take i p) ≡ true
+path-take : (p : Path) (i : ℕ) → is_path p ≡ true → is_path (take i p) ≡ true
 unfolding is_path
-path-take p i h = grind (arith, nat_tests, labels-take p i (and_first _ _ h), length-take i p)
+path-take p i h = grind (arith, nat_tests, labels-take p i (and_parts _ _ h).0, length-take i p)
 
-pub joined-none : joined [] ≡ []
-unfolding joined
-joined-none = refl
+pub path-parent : (p : Path) → is_path p ≡ true → is_path (parent p) ≡ true
+path-parent p h = ap is_path (sym (parent-take p (length p - 1) refl)) ∙ path-take p (length p - 1) h

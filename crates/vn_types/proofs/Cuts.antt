@@ -1,7 +1,7 @@
 -- A text that is cut at its first octet of a kind.
-use Rattle.std.proofs.Common.{◌≡◌, ℕ, ◌≤◌, ◌+◌, ◌==◌, Bool, true, false, cond, not, List, [], ◌∷◌, ◌++◌, length, take, drop, Option, Some, None, refl, ap, ◌∙◌, arith, ltb}
+use Rattle.std.proofs.Common.{◌≡◌, ℕ, ◌≤◌, ◌+◌, ◌==◌, Bool, true, false, cond, not, List, [], ◌∷◌, ◌++◌, length, take, drop, Option, Some, None, refl, sym, ap, ◌∙◌, arith, ltb}
 use Rattle.std.specs.List.{slice_split, onto_first, position_or_len, list_all, join_with_byte}
-use Rattle.std.specs.Prelude.{position}
+use Rattle.std.specs.Prelude.{position, IfSome}
 use Rattle.std.proofs.lemmas.Bool.{not-true, and_parts, eq-eqb}
 use Rattle.std.proofs.lemmas.Bool.Decides.{nat_tests}
 use Rattle.std.proofs.lemmas.List.Folds.{list_all-append}
@@ -60,6 +60,13 @@ lacks-join c d (p ∷ q ∷ ps) other h =
 pub split-join : (c : ℕ) (p : List ℕ) (ps : List (List ℕ)) → list_all (lacks c) (p ∷ ps) ≡ true → slice_split (λ d. d == c) (join_with_byte c (p ∷ ps)) ≡ p ∷ ps
 split-join c p [] h = split-lacks c p (and_parts _ _ h).0
 split-join c p (q ∷ ps) h = split-append c p (join_with_byte c (q ∷ ps)) (and_parts _ _ h).0 ∙ ap (λ qs. p ∷ qs) (split-join c q ps (and_parts _ _ h).1)
+
+-- what is written with an octet between its pieces is written as it was read
+pub written_again : {X : Type 0} (c : ℕ) (pieces : List (List ℕ) → Option X) (text : X → List ℕ)
+    → ((ds : List (List ℕ)) (x : X) → pieces ds ≡ Some x → text x ≡ join_with_byte c ds)
+    → (t : List ℕ) (o : Option X) → o ≡ pieces (slice_split (λ d. d == c) t) → IfSome o (λ x. text x ≡ t)
+written_again c pieces text spelt t None h = tt
+written_again c pieces text spelt t (Some x) h = spelt (slice_split (λ d. d == c) t) x (sym h) ∙ join_with_byte-slice_split c t
 
 -- ---- a last piece that is read whole, or not at all
 

@@ -11,6 +11,7 @@ use Rattle.std.proofs.lemmas.Bool.Decides.{nat_tests}
 use Rattle.std.proofs.lemmas.Str.{IsUtf8-from_ascii}
 use Rattle.std.proofs.lemmas.Str.Parse.{IsNumeralModel, numerals_by_value, tells_all_ascii_digits, parse_digits}
 use Rattle.std.proofs.lemmas.Fmt.{IsAscii-from_digits, digits_decimal, digits_value-decimal, decimal-digits_value, decimal_nonempty, first_decimal, decimal_digit}
+use Rattle.vn_types.specs.Octets.{zero_digit}
 use Rattle.vn_types.proofs.Options.{none_some}
 use Rattle.vn_types.specs.NumberWords.{is_numeral, number_up_to, number_of}
 
@@ -25,7 +26,7 @@ own = numerals_by_value _ tells_all_ascii_digits
 record IsNumeralText (t : List ℕ) : Type 0 where
   digits : all_ascii_digits t ≡ true
   filled : 0 < length t
-  leads : get_or t 0 0 ≡ 48 → length t ≡ 1
+  leads : get_or t 0 0 ≡ zero_digit → length t ≡ 1
 
 numeral_text : (t : List ℕ) → is_numeral t ≡ true → IsNumeralText t
 unfolding is_numeral
@@ -37,10 +38,10 @@ text_numeral : (t : List ℕ) → IsNumeralText t → is_numeral t ≡ true
 unfolding is_numeral
 text_numeral [] h = absurd (omega (arith, h.filled))
 text_numeral (c ∷ []) h = let d = h.digits in grind arith
-text_numeral (c ∷ d ∷ cs) h = let f = digits_all (c ∷ d ∷ cs) ∙ h.digits in let l : c ≡ 48 → length cs + 2 ≡ 1 = λ e. omega (arith, h.leads e) in grind (arith, nat_tests)
+text_numeral (c ∷ d ∷ cs) h = let f = digits_all (c ∷ d ∷ cs) ∙ h.digits in let l : c ≡ zero_digit → length cs + 2 ≡ 1 = λ e. omega (arith, h.leads e) in grind (arith, nat_tests)
 
 -- where the first digit is not `0`, there may be any number of them
-pub long_numeral : (t : List ℕ) → 1 ≤ length t → get_or t 0 0 ≢ 48 → list_all is_ascii_digit t ≡ is_numeral t
+pub long_numeral : (t : List ℕ) → 1 ≤ length t → get_or t 0 0 ≢ zero_digit → list_all is_ascii_digit t ≡ is_numeral t
 unfolding is_numeral
 long_numeral [] h ne = absurd (omega arith)
 long_numeral (c ∷ []) h ne = grind arith
@@ -64,7 +65,7 @@ decimal-number most t n small h =
     let v : digits_value 10 t < 2 ^ 64 = omega (arith, p.1, p.2) in
     ap decimal (sym p.1) ∙ decimal-digits_value own t w.digits w.filled w.leads v
 
-decimal_leads : (n : ℕ) → n < 2 ^ 64 → get_or (decimal n) 0 0 ≡ 48 → length (decimal n) ≡ 1
+decimal_leads : (n : ℕ) → n < 2 ^ 64 → get_or (decimal n) 0 0 ≡ zero_digit → length (decimal n) ≡ 1
 decimal_leads zero h e = ap length (decimal_digit 0 (omega arith))
 decimal_leads (suc n) h e = absurd (omega (arith, first_decimal (suc n) (omega arith) h))
 

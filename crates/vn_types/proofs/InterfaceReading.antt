@@ -7,6 +7,7 @@ use Rattle.std.proofs.lemmas.Bool.{eqb-true}
 use Rattle.std.proofs.lemmas.List.{take-append-drop, take_more, take_all}
 use Rattle.std.proofs.lemmas.List.Folds.{list_all-append}
 use Rattle.std.proofs.lemmas.Slice.Eq.{bytes_eq-Decides}
+use Rattle.vn_types.specs.Octets.{letter_a, letter_b, slash}
 use Rattle.vn_types.specs.declared.interface.Side.{Side}
 use Rattle.vn_types.specs.declared.interface.Side.TheVariants.{A, B}
 use Rattle.vn_types.specs.declared.interface.IfName.{IfName}
@@ -21,11 +22,11 @@ use Rattle.vn_types.proofs.Digits.{decimal-number, number-decimal, number_lacks}
 
 side_letter-side_of : (c : ℕ) (s : Side) → side_of c ≡ Some s → side_letter s ≡ c
 unfolding side_of
-side_letter-side_of c s h = by (c == 97) (c == 98) refl refl h
+side_letter-side_of c s h = by (c == letter_a) (c == letter_b) refl refl h
   where
-    by : (a b : Bool) → (c == 97) ≡ a → (c == 98) ≡ b → cond a (Some A) (cond b (Some B) None) ≡ Some s → side_letter s ≡ c
-    by true b i j e = ap side_letter (sym (some_same _ _ e)) ∙ sym (eqb-true c 97 i)
-    by false true i j e = ap side_letter (sym (some_same _ _ e)) ∙ sym (eqb-true c 98 j)
+    by : (a b : Bool) → (c == letter_a) ≡ a → (c == letter_b) ≡ b → cond a (Some A) (cond b (Some B) None) ≡ Some s → side_letter s ≡ c
+    by true b i j e = ap side_letter (sym (some_same _ _ e)) ∙ sym (eqb-true c letter_a i)
+    by false true i j e = ap side_letter (sym (some_same _ _ e)) ∙ sym (eqb-true c letter_b j)
     by false false i j e = absurd (none_some _ e)
 
 side_of-side_letter : (s : Side) → side_of (side_letter s) ≡ Some s
@@ -99,15 +100,15 @@ unit_side_read_back n side h =
     unit_side_last (decimal n ++ side_letter side ∷ []) (decimal n) (side_letter side) refl
     ∙ rw (side_of-side_letter side, number-decimal 4294967295 n (omega arith) (omega arith)) refl
 
-letter_lacks : (side : Side) → lacks 47 (side_letter side ∷ []) ≡ true
+letter_lacks : (side : Side) → lacks slash (side_letter side ∷ []) ≡ true
 letter_lacks A = refl
 letter_lacks B = refl
 
-pub unit_side_lacks : (t : List ℕ) (v : ℕ × Side) → unit_side_of t ≡ Some v → lacks 47 t ≡ true
+pub unit_side_lacks : (t : List ℕ) (v : ℕ × Side) → unit_side_of t ≡ Some v → lacks slash t ≡ true
 unit_side_lacks t v h =
     let is = unit_side_split t v h in
-    let letter : lacks 47 (get_or t (length t - 1) 0 ∷ []) ≡ true = ap (λ c. lacks 47 (c ∷ [])) (sym (side_letter-side_of _ v.1 is.letter)) ∙ letter_lacks v.1 in
-    ap (lacks 47) (last_is t (unit_side_filled t v h)) ∙ list_all-append (λ d. not (d == 47)) (take (length t - 1) t) (get_or t (length t - 1) 0 ∷ []) ∙ rw (number_lacks 4294967295 _ v.0 47 refl is.number, letter) refl
+    let letter : lacks slash (get_or t (length t - 1) 0 ∷ []) ≡ true = ap (λ c. lacks slash (c ∷ [])) (sym (side_letter-side_of _ v.1 is.letter)) ∙ letter_lacks v.1 in
+    ap (lacks slash) (last_is t (unit_side_filled t v h)) ∙ list_all-append (λ d. not (d == slash)) (take (length t - 1) t) (get_or t (length t - 1) 0 ∷ []) ∙ rw (number_lacks 4294967295 _ v.0 slash refl is.number, letter) refl
 
 -- ---- names
 

@@ -9,6 +9,7 @@ use Rattle.std.proofs.lemmas.Bool.Decides.{nat_tests}
 use Rattle.std.proofs.lemmas.List.{map-append}
 use Rattle.std.proofs.lemmas.List.Splits.{join_with_byte-slice_split}
 use Rattle.std.proofs.lemmas.Str.{digit_value-digit_char}
+use Rattle.vn_types.specs.Octets.{colon}
 use Rattle.vn_types.specs.declared.address.Mac.{Mac}
 use Rattle.vn_types.specs.AddressWords.{hex_digit_of, hex_octet_of, hex_octet, mac_parts, mac_pieces, mac_of, mac_text}
 use Rattle.vn_types.proofs.Options.{none_some, some_same}
@@ -28,10 +29,10 @@ hex_digit_parts c n h = by (nat_lt (digit_value c) 16) refl h
 lower_digit : (c : ℕ) → digit_value c < 16 → digit_char (digit_value c) ≡ to_ascii_lowercase c
 lower_digit c h = grind (arith, nat_tests)
 
-digit_apart : (c : ℕ) → digit_value c < 16 → c ≢ 58
+digit_apart : (c : ℕ) → digit_value c < 16 → c ≢ colon
 digit_apart c h e = omega (arith, ap digit_value e)
 
-char_apart : (d : ℕ) → d < 16 → digit_char d ≢ 58
+char_apart : (d : ℕ) → d < 16 → digit_char d ≢ colon
 char_apart d h e = absurd (omega (arith, sym (digit_value-digit_char d (omega arith)) ∙ ap digit_value e))
 
 -- two digits and what they spell
@@ -66,17 +67,17 @@ pair_lower t n h =
     let low : n % 16 ≡ digit_value p.low = omega (arith, p.value, p.low_digit) in
     (λ i. digit_char (high i) ∷ digit_char (low i) ∷ []) ∙ (λ i. lower_digit p.high p.high_digit i ∷ lower_digit p.low p.low_digit i ∷ []) ∙ ap str_to_ascii_lowercase (sym p.digits)
 
-pair_whole : (t : List ℕ) (n : ℕ) → hex_octet_of t ≡ Some n → lacks 58 t ≡ true
+pair_whole : (t : List ℕ) (n : ℕ) → hex_octet_of t ≡ Some n → lacks colon t ≡ true
 pair_whole t n h =
     let p = pair_digits t n h in
-    let high : (p.high == 58) ≡ false = ne_eqb _ _ (digit_apart p.high p.high_digit) in
-    let low : (p.low == 58) ≡ false = ne_eqb _ _ (digit_apart p.low p.low_digit) in
-    ap (lacks 58) p.digits ∙ rw (high, low) refl
+    let high : (p.high == colon) ≡ false = ne_eqb _ _ (digit_apart p.high p.high_digit) in
+    let low : (p.low == colon) ≡ false = ne_eqb _ _ (digit_apart p.low p.low_digit) in
+    ap (lacks colon) p.digits ∙ rw (high, low) refl
 
-pair_lacks : (n : ℕ) → n < 256 → lacks 58 (hex_octet n) ≡ true
+pair_lacks : (n : ℕ) → n < 256 → lacks colon (hex_octet n) ≡ true
 pair_lacks n h =
-    let high : (digit_char (n / 16) == 58) ≡ false = ne_eqb _ _ (char_apart (n / 16) (omega arith)) in
-    let low : (digit_char (n % 16) == 58) ≡ false = ne_eqb _ _ (char_apart (n % 16) (omega arith)) in
+    let high : (digit_char (n / 16) == colon) ≡ false = ne_eqb _ _ (char_apart (n / 16) (omega arith)) in
+    let low : (digit_char (n % 16) == colon) ≡ false = ne_eqb _ _ (char_apart (n % 16) (omega arith)) in
     rw (high, low) refl
 
 digit_read : (d : ℕ) → d < 16 → hex_digit_of (digit_char d) ≡ Some d
@@ -121,19 +122,19 @@ mac_octets a b c d e f mac h = by (hex_octet_of a) (hex_octet_of b) (hex_octet_o
     by (Some p) None o3 o4 o5 o6 i j k l m n g = absurd (none_some _ g)
     by None o2 o3 o4 o5 o6 i j k l m n g = absurd (none_some _ g)
 
-mac_whole : (a b c d e f : List ℕ) (mac : Mac) → mac_parts a b c d e f ≡ Some mac → lacks 58 f ≡ true
+mac_whole : (a b c d e f : List ℕ) (mac : Mac) → mac_parts a b c d e f ≡ Some mac → lacks colon f ≡ true
 mac_whole a b c d e f mac h = let n = mac_octets a b c d e f mac h in pair_whole f n.u n.sixth
 
-pub mac_cut : (t a b c d e f : List ℕ) → slice_split (λ x. x == 58) t ≡ a ∷ b ∷ c ∷ d ∷ e ∷ slice_split (λ x. x == 58) f → mac_parts a b c d e f ≡ mac_of t
+pub mac_cut : (t a b c d e f : List ℕ) → slice_split (λ x. x == colon) t ≡ a ∷ b ∷ c ∷ d ∷ e ∷ slice_split (λ x. x == colon) f → mac_parts a b c d e f ≡ mac_of t
 unfolding mac_of mac_pieces
-mac_cut t a b c d e f h = sym (ap mac_pieces h ∙ read_last 58 (mac_parts a b c d e) (mac_whole a b c d e) (λ ds. mac_pieces (a ∷ b ∷ c ∷ d ∷ e ∷ ds)) (record { none = refl; one = λ d. refl; more = λ d e ds. refl }) f)
+mac_cut t a b c d e f h = sym (ap mac_pieces h ∙ read_last colon (mac_parts a b c d e) (mac_whole a b c d e) (λ ds. mac_pieces (a ∷ b ∷ c ∷ d ∷ e ∷ ds)) (record { none = refl; one = λ d. refl; more = λ d e ds. refl }) f)
 
-lower_join : (ps : List (List ℕ)) → str_to_ascii_lowercase (join_with_byte 58 ps) ≡ join_with_byte 58 (map str_to_ascii_lowercase ps)
+lower_join : (ps : List (List ℕ)) → str_to_ascii_lowercase (join_with_byte colon ps) ≡ join_with_byte colon (map str_to_ascii_lowercase ps)
 lower_join [] = refl
 lower_join (p ∷ []) = refl
-lower_join (p ∷ q ∷ ps) = map-append to_ascii_lowercase p (58 ∷ join_with_byte 58 (q ∷ ps)) ∙ ap (λ t. str_to_ascii_lowercase p ++ 58 ∷ t) (lower_join (q ∷ ps))
+lower_join (p ∷ q ∷ ps) = map-append to_ascii_lowercase p (colon ∷ join_with_byte colon (q ∷ ps)) ∙ ap (λ t. str_to_ascii_lowercase p ++ colon ∷ t) (lower_join (q ∷ ps))
 
-mac_written : (a b c d e f : List ℕ) (mac : Mac) → IsMac a b c d e f mac → mac_text mac ≡ join_with_byte 58 (map str_to_ascii_lowercase (a ∷ b ∷ c ∷ d ∷ e ∷ f ∷ []))
+mac_written : (a b c d e f : List ℕ) (mac : Mac) → IsMac a b c d e f mac → mac_text mac ≡ join_with_byte colon (map str_to_ascii_lowercase (a ∷ b ∷ c ∷ d ∷ e ∷ f ∷ []))
 unfolding mac_text
 mac_written a b c d e f mac n =
     let one = pair_lower a n.p n.first in
@@ -142,17 +143,17 @@ mac_written a b c d e f mac n =
     let four = pair_lower d n.s n.fourth in
     let five = pair_lower e n.t n.fifth in
     let six = pair_lower f n.u n.sixth in
-    ap (λ (m : Mac). join_with_byte 58 (map hex_octet m.0)) (sym n.value) ∙ (λ i. join_with_byte 58 (one i ∷ two i ∷ three i ∷ four i ∷ five i ∷ six i ∷ []))
+    ap (λ (m : Mac). join_with_byte colon (map hex_octet m.0)) (sym n.value) ∙ (λ i. join_with_byte colon (one i ∷ two i ∷ three i ∷ four i ∷ five i ∷ six i ∷ []))
 
 -- an address is written as it was read, in lower case
 pub mac_canonical : (t : List ℕ) (o : Option Mac) → o ≡ mac_of t → IfSome o (λ mac. mac_text mac ≡ str_to_ascii_lowercase t)
 unfolding mac_of mac_pieces
 mac_canonical t None h = tt
-mac_canonical t (Some mac) h = by (slice_split (λ x. x == 58) t) refl (sym h)
+mac_canonical t (Some mac) h = by (slice_split (λ x. x == colon) t) refl (sym h)
   where
-    by : (ds : List (List ℕ)) → slice_split (λ x. x == 58) t ≡ ds → mac_pieces ds ≡ Some mac → mac_text mac ≡ str_to_ascii_lowercase t
+    by : (ds : List (List ℕ)) → slice_split (λ x. x == colon) t ≡ ds → mac_pieces ds ≡ Some mac → mac_text mac ≡ str_to_ascii_lowercase t
     by (a ∷ b ∷ c ∷ d ∷ e ∷ f ∷ []) s g =
-        mac_written a b c d e f mac (mac_octets a b c d e f mac g) ∙ sym (lower_join (a ∷ b ∷ c ∷ d ∷ e ∷ f ∷ [])) ∙ ap (λ ps. str_to_ascii_lowercase (join_with_byte 58 ps)) (sym s) ∙ ap str_to_ascii_lowercase (join_with_byte-slice_split 58 t)
+        mac_written a b c d e f mac (mac_octets a b c d e f mac g) ∙ sym (lower_join (a ∷ b ∷ c ∷ d ∷ e ∷ f ∷ [])) ∙ ap (λ ps. str_to_ascii_lowercase (join_with_byte colon ps)) (sym s) ∙ ap str_to_ascii_lowercase (join_with_byte-slice_split colon t)
     by _ s g = absurd (none_some _ g)
 
 mac_parts_read : (a b c d e f : ℕ) → a < 256 → b < 256 → c < 256 → d < 256 → e < 256 → f < 256
@@ -164,7 +165,7 @@ mac_parts_read a b c d e f i j k l m n = rw (pair_read a i, pair_read b j, pair_
 six_read_back : (a b c d e f : ℕ) → a < 256 → b < 256 → c < 256 → d < 256 → e < 256 → f < 256 → mac_of (mac_text (record { 0 = a ∷ b ∷ c ∷ d ∷ e ∷ f ∷ [] })) ≡ Some (record { 0 = a ∷ b ∷ c ∷ d ∷ e ∷ f ∷ [] })
 unfolding mac_of mac_text mac_pieces
 six_read_back a b c d e f i j k l m n =
-    ap mac_pieces (split-join 58 (hex_octet a) (hex_octet b ∷ hex_octet c ∷ hex_octet d ∷ hex_octet e ∷ hex_octet f ∷ []) (rw (pair_lacks a i, pair_lacks b j, pair_lacks c k, pair_lacks d l, pair_lacks e m, pair_lacks f n) refl))
+    ap mac_pieces (split-join colon (hex_octet a) (hex_octet b ∷ hex_octet c ∷ hex_octet d ∷ hex_octet e ∷ hex_octet f ∷ []) (rw (pair_lacks a i, pair_lacks b j, pair_lacks c k, pair_lacks d l, pair_lacks e m, pair_lacks f n) refl))
     ∙ mac_parts_read a b c d e f i j k l m n
 
 abbrev six_of : List ℕ → List ℕ
@@ -188,7 +189,7 @@ mac_read_back mac six small =
 
 -- the texts that a writer puts are the address
 pub mac_texts : (mac : Mac) (a b c d e f : List ℕ) → length mac.0 ≡ 6 → a ≡ hex_octet (get_or mac.0 0 0) → b ≡ hex_octet (get_or mac.0 1 0) → c ≡ hex_octet (get_or mac.0 2 0) → d ≡ hex_octet (get_or mac.0 3 0)
-    → e ≡ hex_octet (get_or mac.0 4 0) → f ≡ hex_octet (get_or mac.0 5 0) → a ++ 58 ∷ (b ++ 58 ∷ (c ++ 58 ∷ (d ++ 58 ∷ (e ++ 58 ∷ (f ++ []))))) ≡ mac_text mac
+    → e ≡ hex_octet (get_or mac.0 4 0) → f ≡ hex_octet (get_or mac.0 5 0) → a ++ colon ∷ (b ++ colon ∷ (c ++ colon ∷ (d ++ colon ∷ (e ++ colon ∷ (f ++ []))))) ≡ mac_text mac
 unfolding mac_text
 mac_texts mac a b c d e f six i j k l m n =
-    (λ o. i o ++ 58 ∷ (j o ++ 58 ∷ (k o ++ 58 ∷ (l o ++ 58 ∷ (m o ++ 58 ∷ (n o ++ [])))))) ∙ ap (λ xs. join_with_byte 58 (map hex_octet xs)) (six_is mac.0 six)
+    (λ o. i o ++ colon ∷ (j o ++ colon ∷ (k o ++ colon ∷ (l o ++ colon ∷ (m o ++ colon ∷ (n o ++ [])))))) ∙ ap (λ xs. join_with_byte colon (map hex_octet xs)) (six_is mac.0 six)

@@ -6,15 +6,18 @@ use Rattle.vn_types.specs.declared.interface.HalfId.{HalfId}
 use Rattle.vn_types.specs.declared.interface.IfOf.{IfOf}
 use Rattle.vn_types.specs.declared.interface.IfOf.TheVariants.{Lo0, Half}
 
+-- whether two sides are one
 abbrev pub side_eq : Side → Side → Bool
 side_eq A A = true
 side_eq B B = true
 side_eq _ _ = false
 
+-- the side at the other end
 abbrev pub other_side : Side → Side
 other_side A = B
 other_side B = A
 
+-- whether two halves are one
 abbrev pub half_id_eq : HalfId → HalfId → Bool
 half_id_eq g h = (g.pair == h.pair) && side_eq g.side h.side
 

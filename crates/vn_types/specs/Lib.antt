@@ -1,7 +1,11 @@
 pub mod Words
+pub mod Refusals
+pub mod Fields
+pub mod Ip4Header
 pub mod Steps
 pub mod NumberWords
 pub mod NameWords
+pub mod NameTexts
 pub mod OctetOrder
 pub mod Paths
 pub mod PathTexts
@@ -9,7 +13,9 @@ pub mod PathOrder
 pub mod PathWords
 pub mod Interfaces
 pub mod PerStack
-pub mod Assembled
+pub mod Lent
+pub mod Entries
+pub mod Octets
 pub mod Errors
 pub mod AddressWords
 pub mod InterfaceWords

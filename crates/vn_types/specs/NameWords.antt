@@ -1,10 +1,6 @@
 -- The words that are names, each as what it reads as.
 use Rattle.std.specs.Prelude.{ℕ, List, Option, Some, None, if◌then◌else◌}
-use Rattle.vn_types.specs.Words.{is_label, is_name, is_sock_name}
-
--- `[a-z][a-z0-9_-]{0,15}`, and not `host`
-unfoldable pub label_of : List ℕ → Option (List ℕ)
-label_of text = if is_label text then Some text else None
+use Rattle.vn_types.specs.Words.{is_name, is_sock_name}
 
 -- `[a-z][a-z0-9_.]{0,63}`
 unfoldable pub name_of : List ℕ → Option (List ℕ)

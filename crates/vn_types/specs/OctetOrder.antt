@@ -16,10 +16,15 @@ self_equal Less e = cc
 self_equal Equal e = refl
 self_equal Greater e = cc
 
+-- equal lists are those that compare as `Equal`
 pub octets_ties : (a b : List ℕ) → bytes_eq a b ≡ eq_by_cmp (slice_cmp nat_cmp) a b
 octets_ties a b = both_ways (bytes_eq a b) (eq_by_cmp (slice_cmp nat_cmp) a b)
-    (λ e. rw ((bytes_eq-Decides a b).0 e) ((Equal-is (slice_cmp nat_cmp b b)).1 (self_equal (slice_cmp nat_cmp b b) (nat_list_cmp_total.antisymm b b))))
-    (λ e. rw (slice_cmp-IsAntisymmetric nat_cmp-IsAntisymmetric a b ((Equal-is (slice_cmp nat_cmp a b)).0 e)) ((bytes_eq-Decides b b).1 refl))
+    (λ e. rw ((bytes_eq-Decides a b).0 e)
+    ((Equal-is (slice_cmp nat_cmp b b)).1
+    (self_equal (slice_cmp nat_cmp b b) (nat_list_cmp_total.antisymm b b))))
+    (λ e. rw (slice_cmp-IsAntisymmetric nat_cmp-IsAntisymmetric a b ((Equal-is (slice_cmp nat_cmp a b)).0 e))
+    ((bytes_eq-Decides b b).1 refl))
 
+-- the order is one with that equality
 pub octets_po : IsPartialOrder bytes_eq (λ a b. Some (slice_cmp nat_cmp a b))
 octets_po = po nat_list_cmp_total octets_ties

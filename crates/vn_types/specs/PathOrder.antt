@@ -1,25 +1,24 @@
 -- The order of paths is total, and its equality is equality.
-use Rattle.std.specs.Prelude.{◌≡◌, true, ◌&&◌, Some, refl}
-use Rattle.std.proofs.Common.{sym, arith}
+use Rattle.std.specs.Prelude.{◌≡◌, ◌&&◌, Some, refl}
+use Rattle.std.proofs.Common.{arith}
 use Rattle.std.specs.Bool.{Decides}
 use Rattle.std.specs.Str.{bytes_eq}
-use Rattle.std.specs.List.{list_all}
 use Rattle.std.specs.Ordering.{nat_cmp, ordering_then, eq_by_cmp, is_eq}
 use Rattle.std.specs.declared.cmp.Ordering.{Ordering}
 use Rattle.std.specs.declared.cmp.Ordering.TheVariants.{Less, Equal, Greater}
 use Rattle.std.specs.Cmp.{IsTotalOrder, IsEquivalence, IsPartialOrder, then_total, on_total, both_ways, Equal-is, po, unsigned_ties}
 use Rattle.std.specs.FinMap.{slice_cmp-IsAntisymmetric, nat_cmp-IsAntisymmetric}
 use Rattle.std.proofs.lemmas.Slice.Eq.{slice_eq-Decides, bytes_eq-Decides}
-use Rattle.std.specs.Cmp.Lexicographic.{slice_cmp, lists_total, lists_equiv, nat_list_cmp_total, nat_list_eq_equiv}
-use Rattle.vn_types.specs.Words.{is_label}
+use Rattle.std.specs.Cmp.Lexicographic.{lists_total, lists_equiv, nat_list_cmp_total, nat_list_eq_equiv}
 use Rattle.vn_types.specs.OctetOrder.{self_equal}
 use Rattle.vn_types.specs.Paths.{Path, Key, path_eq, key_eq, key_cmp, joined, path_cmp}
-use Rattle.vn_types.specs.PathTexts.{joined-inj}
 
+-- the order is total
 pub path_total : IsTotalOrder path_cmp
 unfolding path_cmp
 path_total = then_total (on_total joined nat_list_cmp_total) (lists_total nat_list_cmp_total)
 
+-- equality is an equivalence
 pub path_equiv : IsEquivalence path_eq
 unfolding path_eq
 path_equiv = lists_equiv nat_list_eq_equiv
@@ -29,17 +28,22 @@ then_second Less b e = cc
 then_second Equal b e = e
 then_second Greater b e = cc
 
+-- paths that compare as `Equal` are one
 pub path_cmp-exact : (p q : Path) → path_cmp p q ≡ Equal → p ≡ q
 unfolding path_cmp
-path_cmp-exact p q e = slice_cmp-IsAntisymmetric (slice_cmp-IsAntisymmetric nat_cmp-IsAntisymmetric) p q (then_second _ _ e)
+path_cmp-exact p q e =
+    slice_cmp-IsAntisymmetric (slice_cmp-IsAntisymmetric nat_cmp-IsAntisymmetric) p q (then_second _ _ e)
 
+-- equal paths are one
 pub path_eq-Decides : (p q : Path) → Decides (path_eq p q) (p ≡ q)
 unfolding path_eq
 path_eq-Decides p q = slice_eq-Decides {E = bytes_eq} bytes_eq-Decides p q (path_eq p q) refl
 
+-- equal paths are those that compare as `Equal`
 pub path_ties : (p q : Path) → path_eq p q ≡ eq_by_cmp path_cmp p q
 path_ties p q = both_ways (path_eq p q) (eq_by_cmp path_cmp p q)
-    (λ e. rw ((path_eq-Decides p q).0 e) ((Equal-is (path_cmp q q)).1 (self_equal (path_cmp q q) (path_total.antisymm q q))))
+    (λ e. rw ((path_eq-Decides p q).0 e)
+    ((Equal-is (path_cmp q q)).1 (self_equal (path_cmp q q) (path_total.antisymm q q))))
     (λ e. rw (path_cmp-exact p q ((Equal-is (path_cmp p q)).0 e)) (path_equiv.refl q))
 
 eq_then : (a b : Ordering) → is_eq (ordering_then a b) ≡ (is_eq a && is_eq b)
@@ -47,26 +51,12 @@ eq_then Less b = refl
 eq_then Equal b = refl
 eq_then Greater b = refl
 
+-- and so it is with pairs
 pub key_ties : (a b : Key) → key_eq a b ≡ is_eq (key_cmp a b)
 unfolding key_eq key_cmp
-key_ties a b = grind (arith, eq_then (path_cmp a.0 b.0) (nat_cmp a.1 b.1), path_ties a.0 b.0, unsigned_ties a.1 b.1)
+key_ties a b =
+    grind (arith, eq_then (path_cmp a.0 b.0) (nat_cmp a.1 b.1), path_ties a.0 b.0, unsigned_ties a.1 b.1)
 
+-- the order is one with that equality
 pub path_po : IsPartialOrder path_eq (λ p q. Some (path_cmp p q))
 path_po = po path_total path_ties
-
--- ---- what the texts say of paths that are well formed
-
--- their texts are equal exactly where they are
-pub same_text_eq : (p q : Path) → list_all is_label p ≡ true → list_all is_label q ≡ true → bytes_eq (joined p) (joined q) ≡ path_eq p q
-same_text_eq p q hp hq = both_ways (bytes_eq (joined p) (joined q)) (path_eq p q)
-    (λ e. rw (joined-inj p q hp hq ((bytes_eq-Decides (joined p) (joined q)).0 e)) (path_equiv.refl q))
-    (λ e. rw ((path_eq-Decides p q).0 e) ((bytes_eq-Decides (joined q) (joined q)).1 refl))
-
-then_first : (a b : Ordering) → (a ≡ Equal → b ≡ Equal) → a ≡ ordering_then a b
-then_first Less b f = refl
-then_first Equal b f = sym (f refl)
-then_first Greater b f = refl
-
-pub same_text_cmp : (p q : Path) → list_all is_label p ≡ true → list_all is_label q ≡ true → slice_cmp nat_cmp (joined p) (joined q) ≡ path_cmp p q
-unfolding path_cmp
-same_text_cmp p q hp hq = then_first _ _ (λ e. rw (joined-inj p q hp hq (slice_cmp-IsAntisymmetric nat_cmp-IsAntisymmetric (joined p) (joined q) e)) (self_equal _ ((lists_total nat_list_cmp_total).antisymm q q)))

@@ -21,4 +21,5 @@ unfoldable pub text_order : Path → Path → Ordering
 text_order [] [] = Equal
 text_order [] (label ∷ labels) = Less
 text_order (label ∷ labels) [] = Greater
-text_order (label ∷ labels) (other ∷ others) = slice_cmp nat_cmp (path_text (label ∷ labels)) (path_text (other ∷ others))
+text_order (label ∷ labels) (other ∷ others) =
+    slice_cmp nat_cmp (path_text (label ∷ labels)) (path_text (other ∷ others))

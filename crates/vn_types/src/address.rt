@@ -6,7 +6,8 @@ pub struct Ip4(pub u32);
 #[derive(Clone, Copy, PartialEq, Eq)]
 pub struct Mac(pub [u8; 6]);
 
-/// An address with a length of 0 to 32 bits. Where it means a network, the bits past the length are 0.
+/// An address with a length of 0 to 32 bits. Where it means a network, the bits past the length
+/// are 0.
 #[derive(Clone, Copy, PartialEq, Eq)]
 pub struct Prefix {
     pub net: Ip4,

@@ -1,11 +1,11 @@
 ghost use Rattle.std.specs.Prelude.{◌≡◌, ◌≤◌, ◌++◌, Some, IfSome, OnOk, OnErr};
+ghost use Rattle.std.specs.Io.{StartsWith};
 ghost use Rattle.vn_types.specs.AddressWords.{ip4_parts, ip4_of, ip4_text, prefix_parts, prefix_of, prefix_text};
 
 use crate::address::{Ip4, Mac, Prefix};
-use crate::cut::cut;
 use crate::memory::NoMemory;
 use crate::number::{read_octet, read_up_to};
-use crate::put::{digits, put_all};
+use crate::text::{cut, digits, put, put_all, put_number, restore};
 use itoa::Buffer;
 
 /// The address that four numbers with dots spell.
@@ -81,15 +81,17 @@ pub fn write_prefix(prefix: Prefix, out: &mut Vec<u8>) -> Result<(), NoMemory>
     ensures read_back { prefix_of (prefix_text prefix) ≡ Some prefix }
 {
     let start = out.len();
+    let written = put_prefix(prefix, out);
+    restore(written, start, out)
+}
+
+fn put_prefix(prefix: Prefix, out: &mut Vec<u8>) -> Result<(), NoMemory>
+    requires { prefix.len ≤ 32 }
+    ensures put { OnOk result (out.new.items ≡ out.old.items ++ prefix_text prefix) }
+    ensures front { StartsWith out.new.items out.old.items }
+{
     let Prefix { net, len } = prefix;
     write_ip4(net, out)?;
-    let mut buffer = Buffer::new();
-    let length = digits(&mut buffer, u64::from(len));
-    match put_all(&[b"/", length], out) {
-        Ok(()) => Ok(()),
-        Err(_) => {
-            out.truncate(start);
-            Err(NoMemory)
-        }
-    }
+    put(b"/", out)?;
+    put_number(u64::from(len), out)
 }

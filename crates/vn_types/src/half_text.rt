@@ -1,13 +1,12 @@
 ghost use Rattle.std.specs.Prelude.{◌≡◌, ◌++◌, Some, IfOk, IfSome, OnOk, OnErr};
+ghost use Rattle.std.specs.Io.{StartsWith};
 ghost use Rattle.vn_types.specs.HalfWords.{half_parts, half_of, half_text};
 
-use crate::cut::cut;
 use crate::half::Half;
-use crate::interface_text::{letter, read_unit_side};
+use crate::interface_text::{put_unit_side, read_unit_side};
 use crate::memory::NoMemory;
-use crate::path_text::{read_path, write_path};
-use crate::put::{digits, put_all};
-use itoa::Buffer;
+use crate::path_text::read_path;
+use crate::text::{cut, put, put_number, restore};
 use std::alloc::Global;
 
 /// The half that a text spells: its home, `/`, its unit and its side.
@@ -43,15 +42,17 @@ pub fn write_half(half: &Half, out: &mut Vec<u8>) -> Result<(), NoMemory>
     ensures read_back { half_of (half_text half.now) ≡ Some half.now }
 {
     let start = out.len();
-    let number = u64::from(half.unit);
-    write_path(&half.home, out)?;
-    let mut buffer = Buffer::new();
-    let unit = digits(&mut buffer, number);
-    match put_all(&[b"/", unit, letter(half.side)], out) {
-        Ok(()) => Ok(()),
-        Err(_) => {
-            out.truncate(start);
-            Err(NoMemory)
-        }
-    }
+    let written = put_half(half, out);
+    restore(written, start, out)
+}
+
+fn put_half(half: &Half, out: &mut Vec<u8>) -> Result<(), NoMemory>
+    ensures put { OnOk result (out.new.items ≡ out.old.items ++ half_text half.now) }
+    ensures front { StartsWith out.new.items out.old.items }
+    ensures read_back { half_of (half_text half.now) ≡ Some half.now }
+{
+    let unit = half.unit;
+    put(half.home.text(), out)?;
+    put(b"/", out)?;
+    put_unit_side(unit, half.side, out)
 }

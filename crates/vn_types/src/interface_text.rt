@@ -1,11 +1,11 @@
 ghost use Rattle.std.specs.Prelude.{◌≡◌, ◌∷◌, [], ◌++◌, Some, IfSome, OnOk, OnErr};
-ghost use Rattle.vn_types.specs.InterfaceWords.{side_of, unit_side_parts, unit_side_of, side_letter, epair_of, ifname_of, ifname_text};
+ghost use Rattle.std.specs.Io.{StartsWith};
+ghost use Rattle.vn_types.specs.InterfaceWords.{side_of, unit_side_parts, unit_side_of, side_letter, epair_of, ifname_of, ifname_text, unit_side_text};
 
 use crate::interface::{IfName, Side};
 use crate::memory::NoMemory;
 use crate::number::read_unit;
-use crate::put::{digits, put_all};
-use itoa::Buffer;
+use crate::text::{put, put_number, restore};
 
 /// The name of an interface that a text spells: `lo0`, or `epair` with a unit and `a` or `b`.
 pub fn read_ifname(text: &[u8]) -> Option<IfName>
@@ -63,18 +63,38 @@ pub fn write_ifname(name: IfName, out: &mut Vec<u8>) -> Result<(), NoMemory>
     // What is written is read.
     ensures read_back { ifname_of (ifname_text name) ≡ Some name }
 {
+    let start = out.len();
+    let written = put_ifname(name, out);
+    restore(written, start, out)
+}
+
+#[tactic(auto, unfolding(crate::specs::InterfaceWords::ifname_text))]
+fn put_ifname(name: IfName, out: &mut Vec<u8>) -> Result<(), NoMemory>
+    ensures put { OnOk result (out.new.items ≡ out.old.items ++ ifname_text name) }
+    ensures front { StartsWith out.new.items out.old.items }
+    ensures read_back { ifname_of (ifname_text name) ≡ Some name }
+{
     match name {
-        IfName::Lo0 => put_all(&[b"lo0"], out),
+        IfName::Lo0 => put(b"lo0", out),
         IfName::Epair { unit, side } => {
-            let mut buffer = Buffer::new();
-            let unit = digits(&mut buffer, u64::from(unit));
-            put_all(&[b"epair", unit, letter(side)], out)
+            put(b"epair", out)?;
+            put_unit_side(unit, side, out)
         }
     }
 }
 
+/// Puts a unit and a side at the end of the output.
+#[tactic(auto, unfolding(crate::specs::InterfaceWords::unit_side_text))]
+pub(crate) fn put_unit_side(unit: u32, side: Side, out: &mut Vec<u8>) -> Result<(), NoMemory>
+    ensures put { OnOk result (out.new.items ≡ out.old.items ++ unit_side_text unit side) }
+    ensures front { StartsWith out.new.items out.old.items }
+{
+    put_number(u64::from(unit), out)?;
+    put(letter(side), out)
+}
+
 /// The letter of a side.
-pub(crate) fn letter(side: Side) -> &'static [u8]
+fn letter(side: Side) -> &'static [u8]
     ensures { result.now ≡ side_letter side ∷ [] }
 {
     match side {

@@ -1,10 +1,13 @@
 ghost use Rattle.std.specs.Prelude.{◌≡◌, IfOk, true};
-ghost use Rattle.std.specs.List.{list_all};
-ghost use Rattle.vn_types.specs.Words.{is_label, is_label_octet};
-ghost use Rattle.vn_types.specs.NameWords.{label_of};
+ghost use Rattle.vn_types.specs.Words.{is_label};
+ghost use Rattle.vn_types.specs.Paths.{is_path};
+ghost use Rattle.vn_types.specs.PathTexts.{labels_in};
 
+use crate::list::List;
 use crate::memory::NoMemory;
 use crate::octets::Octets;
+use crate::path::count_dots;
+use crate::text::cut;
 use std::alloc::Global;
 use std::marker::Model;
 
@@ -20,23 +23,21 @@ impl Model for Label {
 
     ghost Value = { List ℕ };
 
+    ghost inverse = { λ t. record { text = t } };
+
     ghost view = { λ a. a.text };
 
     ghost invariant = { λ a. is_label a.text ≡ true };
-
-    ghost inverse = { λ t. record { text = t } };
 }
 
 impl Label {
-    #[tactic(auto, unfolding(crate::specs::NameWords::label_of))]
-    pub(crate) fn read(alloc: Global, text: &[u8]) -> Result<Option<Label>, NoMemory>
-        ensures { IfOk result (λ r. r ≡ label_of text.now) }
+    /// The label that a text is.
+    fn spelt(alloc: Global, text: &[u8]) -> Result<Label, NoMemory>
+        requires { is_label text.now ≡ true }
+        ensures { IfOk result (λ l. l ≡ text.now) }
     {
-        if !is_label(text) {
-            return Ok(None);
-        }
         let text = Octets::from_slice(alloc, text)?;
-        Ok(Some(Label { text }))
+        Ok(Label { text })
     }
 
     /// The octets of the label.
@@ -46,38 +47,24 @@ impl Label {
     {
         self.text.as_slice()
     }
+}
 
-    pub(crate) fn copy(&self) -> Result<Label, NoMemory>
-        ensures { IfOk result (λ l. l ≡ self.now) }
-    {
-        let text = self.text.copy()?;
-        Ok(Label { text })
+/// The labels in the text of a path, from the top.
+pub(crate) fn labels_in(alloc: Global, text: &[u8]) -> Result<List<Label>, NoMemory>
+    requires { is_path (labels_in text.now) ≡ true }
+    ensures { IfOk result (λ l. l ≡ labels_in text.now) }
+{
+    if text.is_empty() {
+        return Ok(List::new(alloc));
     }
-}
-
-#[tactic(auto, unfolding(crate::specs::Words::is_label))]
-fn is_label(text: &[u8]) -> bool
-    ensures { result ≡ is_label text.now }
-{
-    match text {
-        [first, rest @ ..] => {
-            first.is_ascii_lowercase()
-                && are_label_octets(rest)
-                && rest.len() <= 15
-                && text != b"host".as_slice()
-        }
-        [] => false,
+    let mut labels = List::with_capacity(alloc, count_dots(text) + 1)?;
+    let mut rest = text;
+    while let Some((piece, more)) = cut(rest, b'.') {
+        let label = Label::spelt(alloc, piece)?;
+        labels.push(label)?;
+        rest = more;
     }
-}
-
-fn are_label_octets(text: &[u8]) -> bool
-    ensures { result ≡ list_all is_label_octet text.now }
-{
-    text.iter().all(|c| is_label_octet(*c))
-}
-
-fn is_label_octet(c: u8) -> bool
-    ensures { result ≡ is_label_octet c }
-{
-    c.is_ascii_lowercase() || c.is_ascii_digit() || c == b'_' || c == b'-'
+    let label = Label::spelt(alloc, rest)?;
+    labels.push(label)?;
+    Ok(labels)
 }

@@ -4,7 +4,7 @@
 
 mod address;
 mod address_text;
-mod cut;
+mod boxed;
 mod errno;
 mod half;
 mod half_text;
@@ -20,12 +20,14 @@ mod octets;
 mod path;
 mod path_text;
 mod per_stack;
-mod put;
 #[cfg(test)]
 mod tests;
+mod text;
+mod words;
 
 pub use address::{Ip4, Mac, Prefix};
 pub use address_text::{read_ip4, read_prefix, write_ip4, write_prefix};
+pub use boxed::Boxed;
 pub use errno::Errno;
 pub use half::Half;
 pub use half_text::{read_half, write_half};
@@ -39,5 +41,6 @@ pub use name::{Name, SockName};
 pub use number::read_number;
 pub use octets::Octets;
 pub use path::{Path, join};
-pub use path_text::{read_path, write_path};
-pub use per_stack::{Empty, make_room};
+pub use path_text::{MOST_LABELS, read_path, write_path};
+pub use per_stack::{Empty, PerStack, make_room};
+pub use text::{cut, hex_pair, place_of, put, put_all, put_number, restore};

@@ -32,10 +32,8 @@ impl<T> List<T> {
     pub fn with_capacity(alloc: Global, capacity: usize) -> Result<List<T>, NoMemory>
         ensures { IfOk result (λ l. l ≡ []) }
     {
-        match Vec::with_capacity(alloc, capacity) {
-            Ok(items) => Ok(List { items }),
-            Err(_) => Err(NoMemory),
-        }
+        let items = Vec::with_capacity(alloc, capacity)?;
+        Ok(List { items })
     }
 
     /// The number of elements.
@@ -59,6 +57,14 @@ impl<T> List<T> {
         self.items.as_slice()
     }
 
+    /// The elements, in order, each of which is then its holder's.
+    pub fn into_vec(self) -> Vec<T>
+        ensures { result.items ≡ self }
+    {
+        let List { items } = self;
+        items
+    }
+
     /// The allocator that the list grows by.
     pub fn allocator(&self) -> Global {
         *self.items.allocator()
@@ -71,9 +77,7 @@ impl<T: Drop> List<T> {
         ensures ok { OnOk result (self.new ≡ self.old ++ value ∷ []) }
         ensures err { OnErr result (self.new ≡ self.old) }
     {
-        if self.items.push(value).is_err() {
-            return Err(NoMemory);
-        }
+        self.items.push(value)?;
         Ok(())
     }
 }

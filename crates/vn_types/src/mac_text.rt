@@ -1,12 +1,10 @@
 ghost use Rattle.std.specs.Prelude.{◌≡◌, ◌<◌, ◌++◌, Some, IfSome, OnOk, OnErr};
-ghost use Rattle.std.specs.Char.{digit_char};
 ghost use Rattle.std.specs.Str.{str_to_ascii_lowercase};
-ghost use Rattle.vn_types.specs.AddressWords.{hex_digit_of, hex_octet_of, hex_octet, mac_parts, mac_of, mac_text};
+ghost use Rattle.vn_types.specs.AddressWords.{hex_digit_of, hex_octet_of, mac_parts, mac_of, mac_text};
 
 use crate::address::Mac;
-use crate::cut::cut;
 use crate::memory::NoMemory;
-use crate::put::put_all;
+use crate::text::{cut, hex_pair, put_all};
 
 /// The hardware address that six groups of two hexadecimal digits with colons spell.
 pub fn read_mac(text: &[u8]) -> Option<Mac>
@@ -70,21 +68,4 @@ pub fn write_mac(mac: Mac, out: &mut Vec<u8>) -> Result<(), NoMemory>
     let (a, b, c) = (hex_pair(a), hex_pair(b), hex_pair(c));
     let (d, e, f) = (hex_pair(d), hex_pair(e), hex_pair(f));
     put_all(&[&a, b":", &b, b":", &c, b":", &d, b":", &e, b":", &f], out)
-}
-
-fn hex_pair(octet: u8) -> [u8; 2]
-    ensures { result ≡ hex_octet octet }
-{
-    [hex_digit(octet / 16), hex_digit(octet % 16)]
-}
-
-fn hex_digit(digit: u8) -> u8
-    requires { digit < 16 }
-    ensures { result ≡ digit_char digit }
-{
-    if digit < 10 {
-        b'0' + digit
-    } else {
-        b'a' + (digit - 10)
-    }
 }

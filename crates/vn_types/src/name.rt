@@ -1,17 +1,36 @@
-ghost use Rattle.std.specs.Prelude.{◌≡◌, IfOk, true};
-ghost use Rattle.std.specs.List.{list_all};
-ghost use Rattle.vn_types.specs.Words.{is_name, is_name_octet, is_sock_name, is_letter_or_digit};
+ghost use Rattle.std.specs.Prelude.{◌≡◌, IfOk, Some, refl, true};
+ghost use Rattle.std.specs.Str.{bytes_eq};
+ghost use Rattle.std.specs.Ordering.{nat_cmp};
+ghost use Rattle.std.specs.Cmp.Lexicographic.{slice_cmp, nat_list_cmp_total, nat_list_eq_equiv};
+ghost use Rattle.std.specs.Cmp.{partial_equiv_from_equiv};
+ghost use Rattle.vn_types.specs.OctetOrder.{octets_po, octets_ties};
+ghost use Rattle.vn_types.specs.Words.{is_name, is_sock_name};
 ghost use Rattle.vn_types.specs.NameWords.{name_of, sock_name_of};
 
 use crate::memory::NoMemory;
 use crate::octets::Octets;
+use crate::words::{is_name, is_sock_name};
 use std::alloc::Global;
+use std::cmp::Ordering;
 use std::marker::Model;
 
 /// The name of a variable or a constructor: `[a-z][a-z0-9_.]{0,63}`.
-#[derive(PartialEq, Eq, PartialOrd, Ord, Drop)]
+#[derive(Drop)]
 pub struct Name {
+    text: NameText,
+}
+
+/// The name of a socket: `[a-z][a-z0-9]{0,15}`.
+#[derive(PartialEq, Eq, PartialOrd, Ord, Drop)]
+pub struct SockName {
     text: Octets,
+}
+
+/// The text of a name that was read, or of one that the program has.
+#[derive(Drop)]
+enum NameText {
+    Read(Octets),
+    Fixed(&'static [u8]),
 }
 
 impl Model for Name {
@@ -20,17 +39,11 @@ impl Model for Name {
 
     ghost Value = { List ℕ };
 
-    ghost view = { λ a. a.text };
+    ghost use Rattle.vn_types.specs.NameTexts.{octets_of};
 
-    ghost invariant = { λ a. is_name a.text ≡ true };
+    ghost view = { λ a. octets_of a.text };
 
-    ghost inverse = { λ t. record { text = t } };
-}
-
-/// The name of a socket: `[a-z][a-z0-9]{0,15}`.
-#[derive(PartialEq, Eq, PartialOrd, Ord, Drop)]
-pub struct SockName {
-    text: Octets,
+    ghost invariant = { λ a. is_name (octets_of a.text) ≡ true };
 }
 
 impl Model for SockName {
@@ -46,6 +59,44 @@ impl Model for SockName {
     ghost inverse = { λ t. record { text = t } };
 }
 
+impl PartialEq for Name {
+    ghost eq = { bytes_eq };
+
+    ghost laws = { partial_equiv_from_equiv nat_list_eq_equiv };
+
+    fn eq(&self, other: &Name) -> bool {
+        self.text() == other.text()
+    }
+}
+
+impl Eq for Name {
+    ghost laws = { nat_list_eq_equiv };
+}
+
+impl PartialOrd for Name {
+    ghost partial_cmp = { λ a b. Some (slice_cmp nat_cmp a b) };
+
+    ghost laws = { octets_po };
+
+    fn partial_cmp(&self, other: &Name) -> Option<Ordering> {
+        Some(self.cmp(other))
+    }
+}
+
+impl Ord for Name {
+    ghost cmp = { slice_cmp nat_cmp };
+
+    ghost total = { nat_list_cmp_total };
+
+    ghost matches_partial_cmp = { λ a b. refl };
+
+    ghost matches_eq = { octets_ties };
+
+    fn cmp(&self, other: &Name) -> Ordering {
+        self.text().cmp(other.text())
+    }
+}
+
 impl Name {
     /// The name that a text is.
     #[tactic(auto, unfolding(crate::specs::NameWords::name_of))]
@@ -55,8 +106,20 @@ impl Name {
         if !is_name(text) {
             return Ok(None);
         }
-        let text = Octets::from_slice(alloc, text)?;
+        let text = NameText::Read(Octets::from_slice(alloc, text)?);
         Ok(Some(Name { text }))
+    }
+
+    /// The name that a text of the program is. Takes no memory.
+    #[tactic(auto, unfolding(crate::specs::NameWords::name_of))]
+    pub fn fixed(text: &'static [u8]) -> Option<Name>
+        ensures { result ≡ name_of text.now }
+    {
+        if !is_name(text) {
+            return None;
+        }
+        let text = NameText::Fixed(text);
+        Some(Name { text })
     }
 
     /// The octets of the name.
@@ -64,14 +127,20 @@ impl Name {
         ensures text { result.now ≡ self.now }
         ensures name { is_name self.now ≡ true }
     {
-        self.text.as_slice()
+        match &self.text {
+            NameText::Read(text) => text.as_slice(),
+            NameText::Fixed(text) => text,
+        }
     }
 
     /// The same name once more.
     pub fn copy(&self) -> Result<Name, NoMemory>
         ensures { IfOk result (λ n. n ≡ self.now) }
     {
-        let text = self.text.copy()?;
+        let text = match &self.text {
+            NameText::Read(text) => NameText::Read(text.copy()?),
+            NameText::Fixed(text) => NameText::Fixed(text),
+        };
         Ok(Name { text })
     }
 }
@@ -104,52 +173,4 @@ impl SockName {
         let text = self.text.copy()?;
         Ok(SockName { text })
     }
-}
-
-#[tactic(auto, unfolding(crate::specs::Words::is_name))]
-fn is_name(text: &[u8]) -> bool
-    ensures { result ≡ is_name text.now }
-{
-    match text {
-        [first, rest @ ..] => {
-            first.is_ascii_lowercase() && are_name_octets(rest) && rest.len() <= 63
-        }
-        [] => false,
-    }
-}
-
-fn are_name_octets(text: &[u8]) -> bool
-    ensures { result ≡ list_all is_name_octet text.now }
-{
-    text.iter().all(|c| is_name_octet(*c))
-}
-
-fn is_name_octet(c: u8) -> bool
-    ensures { result ≡ is_name_octet c }
-{
-    c.is_ascii_lowercase() || c.is_ascii_digit() || c == b'_' || c == b'.'
-}
-
-#[tactic(auto, unfolding(crate::specs::Words::is_sock_name))]
-fn is_sock_name(text: &[u8]) -> bool
-    ensures { result ≡ is_sock_name text.now }
-{
-    match text {
-        [first, rest @ ..] => {
-            first.is_ascii_lowercase() && are_letters_or_digits(rest) && rest.len() <= 15
-        }
-        [] => false,
-    }
-}
-
-fn are_letters_or_digits(text: &[u8]) -> bool
-    ensures { result ≡ list_all is_letter_or_digit text.now }
-{
-    text.iter().all(|c| is_letter_or_digit(*c))
-}
-
-fn is_letter_or_digit(c: u8) -> bool
-    ensures { result ≡ is_letter_or_digit c }
-{
-    c.is_ascii_lowercase() || c.is_ascii_digit()
 }

@@ -72,14 +72,25 @@ impl Octets {
         }
     }
 
+    /// No octets, with room for so many.
+    pub fn with_capacity(alloc: Global, capacity: usize) -> Result<Octets, NoMemory>
+        ensures { IfOk result (λ o. o ≡ []) }
+    {
+        let items = Vec::with_capacity(alloc, capacity)?;
+        Ok(Octets { items })
+    }
+
+    /// The allocator of the octets.
+    pub(crate) fn allocator(&self) -> Global {
+        *self.items.allocator()
+    }
+
     /// The octets of a slice.
     pub fn from_slice(alloc: Global, octets: &[u8]) -> Result<Octets, NoMemory>
         ensures { IfOk result (λ o. o ≡ octets.now) }
     {
-        match Vec::from_slice(alloc, octets) {
-            Ok(items) => Ok(Octets { items }),
-            Err(_) => Err(NoMemory),
-        }
+        let items = Vec::from_slice(alloc, octets)?;
+        Ok(Octets { items })
     }
 
     /// The octets, in order.
@@ -94,9 +105,7 @@ impl Octets {
         ensures ok { OnOk result (self.new ≡ self.old ++ more.now) }
         ensures err { OnErr result (self.new ≡ self.old) }
     {
-        if self.items.extend_from_slice(more).is_err() {
-            return Err(NoMemory);
-        }
+        self.items.extend_from_slice(more)?;
         Ok(())
     }
 
@@ -104,6 +113,6 @@ impl Octets {
     pub fn copy(&self) -> Result<Octets, NoMemory>
         ensures { IfOk result (λ o. o ≡ self.now) }
     {
-        Octets::from_slice(*self.items.allocator(), self.items.as_slice())
+        Octets::from_slice(self.allocator(), self.items.as_slice())
     }
 }

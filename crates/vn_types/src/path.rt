@@ -1,13 +1,14 @@
-ghost use Rattle.std.specs.Prelude.{◌≡◌, ◌↔◌, ◌+◌, ◌≤◌, List, ℕ, [], IsTrue, ◌++◌, ◌∷◌, length, IfOk, OnOk, Some, true, refl};
+ghost use Rattle.std.specs.Prelude.{◌≡◌, ◌↔◌, ◌+◌, ◌≤◌, ◌==◌, count_by, List, ℕ, [], IsTrue, ◌++◌, length, IfOk, Some, true, refl};
 ghost use Rattle.std.specs.Cmp.{partial_equiv_from_equiv};
-ghost use Rattle.vn_types.specs.Paths.{path_eq, path_cmp, path_text, glued, joined, is_path, is_under, parent};
-ghost use Rattle.std.specs.List.{list_all};
-ghost use Rattle.vn_types.specs.Words.{is_label};
-ghost use Rattle.vn_types.specs.PathTexts.{IsSpelt};
+ghost use Rattle.vn_types.specs.declared.path_text.TheConstants.{MOST_LABELS};
+ghost use Rattle.vn_types.specs.Octets.{dot};
+ghost use Rattle.vn_types.specs.Paths.{path_eq, path_cmp, path_text, glued, is_path, is_under, parent};
+ghost use Rattle.vn_types.specs.PathTexts.{labels_in, before_last_dot, is_text_under};
 ghost use Rattle.vn_types.specs.PathWords.{text_order};
 ghost use Rattle.vn_types.specs.PathOrder.{path_total, path_equiv, path_po, path_ties};
 
-use crate::label::Label;
+use crate::label::{Label, labels_in};
+use crate::list::List;
 use crate::memory::NoMemory;
 use crate::octets::Octets;
 use std::alloc::Global;
@@ -15,22 +16,22 @@ use std::cmp::Ordering;
 use std::marker::Model;
 
 /// The path of a jail: `host`, or 1 to 8 labels with dots between (jail(8), "Hierarchical Jails").
-/// The text is kept beside the labels, since paths are ordered by it.
+/// It is kept as its text, by which paths are ordered, and as no octets for host.
 #[derive(Drop)]
 pub struct Path {
-    labels: Vec<Label>,
     text: Octets,
 }
 
 impl Model for Path {
-    ghost use Rattle.std.specs.Prelude.{List, ℕ};
-    ghost use Rattle.vn_types.specs.PathTexts.{IsSpelt};
+    ghost use Rattle.std.specs.Prelude.{◌≡◌, true, List, ℕ};
+    ghost use Rattle.vn_types.specs.Paths.{is_path};
+    ghost use Rattle.vn_types.specs.PathTexts.{labels_in};
 
     ghost Value = { List (List ℕ) };
 
-    ghost view = { λ a. a.labels.items };
+    ghost view = { λ a. labels_in a.text };
 
-    ghost invariant = { λ a. IsSpelt a.labels.items a.text };
+    ghost invariant = { λ a. is_path (labels_in a.text) ≡ true };
 }
 
 impl PartialEq for Path {
@@ -80,17 +81,17 @@ impl Path {
         ensures { result ≡ [] }
     {
         Path {
-            labels: Vec::new(alloc),
             text: Octets::new(alloc),
         }
     }
 
-    /// The path of labels, with their text.
-    pub(crate) fn spelt(labels: Vec<Label>, text: Octets) -> Path
-        requires { IsSpelt labels.items text }
-        ensures { result ≡ labels.items }
+    /// The path whose labels are in a text.
+    pub(crate) fn spelt(alloc: Global, text: &[u8]) -> Result<Path, NoMemory>
+        requires { is_path (labels_in text.now) ≡ true }
+        ensures { IfOk result (λ p. p ≡ labels_in text.now) }
     {
-        Path { labels, text }
+        let text = Octets::from_slice(alloc, text)?;
+        Ok(Path { text })
     }
 
     /// The path as a user writes it.
@@ -98,7 +99,7 @@ impl Path {
         ensures text { result.now ≡ path_text self.now }
         ensures path { is_path self.now ≡ true }
     {
-        if self.labels.as_slice().is_empty() {
+        if self.text.as_slice().is_empty() {
             return b"host";
         }
         self.text.as_slice()
@@ -108,62 +109,50 @@ impl Path {
     pub fn copy(&self) -> Result<Path, NoMemory>
         ensures { IfOk result (λ p. p ≡ self.now) }
     {
-        let mut labels = Vec::new(*self.labels.allocator());
-        push_copies(&mut labels, self.labels.as_slice())?;
         let text = self.text.copy()?;
-        Ok(Path { labels, text })
+        Ok(Path { text })
     }
 
     /// The path above it, which is host for a path of one label and for host.
     pub fn parent(&self) -> Result<Path, NoMemory>
         ensures { IfOk result (λ p. p ≡ parent self.now) }
     {
-        let alloc = *self.labels.allocator();
-        let above = self.labels.len().saturating_sub(1);
-        let (above, _) = self.labels.as_slice().split_at(above);
-        let mut labels = Vec::new(alloc);
-        push_copies(&mut labels, above)?;
-        let text = join_labels(alloc, above)?;
-        Ok(Path { labels, text })
+        Path::spelt(self.text.allocator(), before_last_dot(self.text.as_slice()))
     }
 
     /// The number of labels.
-    #[tactic(auto, using(crate::specs::PathTexts::few_labels))]
     pub fn depth(&self) -> u64
         ensures depth { result ≡ length self.now }
-        ensures most { result ≤ 8 }
+        ensures most { result ≤ MOST_LABELS }
+        ensures path { is_path self.now ≡ true }
     {
-        self.labels.len() as u64
+        count_labels(self.text.as_slice())
     }
 
     /// The labels, from the top.
-    pub fn labels(&self) -> &[Label]
-        ensures labels { result.now ≡ self.now }
+    pub fn labels(&self) -> Result<List<Label>, NoMemory>
+        ensures labels { IfOk result (λ l. l ≡ self.now) }
         ensures path { is_path self.now ≡ true }
     {
-        self.labels.as_slice()
+        labels_in(self.text.allocator(), self.text.as_slice())
     }
 
     /// Whether this path is the other one or below it.
-    #[tactic(auto, unfolding(crate::specs::Paths::is_under))]
     pub fn is_under(&self, other: &Path) -> bool
         ensures test { result ≡ is_under self.now other.now }
         ensures below { IsTrue result ↔ ((rest : List (List ℕ)) × (self.now ≡ other.now ++ rest)) }
     {
-        self.labels.as_slice().starts_with(other.labels.as_slice())
+        is_text_under(self.text.as_slice(), other.text.as_slice())
     }
 }
 
-fn push_copies(labels: &mut Vec<Label>, more: &[Label]) -> Result<(), NoMemory>
-    ensures { OnOk result (labels.new.items ≡ labels.old.items ++ more.now) }
+/// The path that `rest` names as it is seen from `base`.
+pub fn join(alloc: Global, base: &Path, rest: &Path) -> Result<Path, NoMemory>
+    requires { length base.now + length rest.now ≤ MOST_LABELS }
+    ensures { IfOk result (λ p. p ≡ base.now ++ rest.now) }
 {
-    for label in more {
-        let copy = label.copy()?;
-        if labels.push(copy).is_err() {
-            return Err(NoMemory);
-        }
-    }
-    Ok(())
+    let text = glue(alloc, base.text.as_slice(), rest.text.as_slice())?;
+    Ok(Path { text })
 }
 
 /// Two texts with a dot between, where neither is empty.
@@ -176,32 +165,54 @@ fn glue(alloc: Global, first: &[u8], second: &[u8]) -> Result<Octets, NoMemory>
     if second.is_empty() {
         return Octets::from_slice(alloc, first);
     }
-    let mut text = Octets::from_slice(alloc, first)?;
+    let mut text = Octets::with_capacity(alloc, first.len() + 1 + second.len())?;
+    text.extend(first)?;
     text.extend(b".")?;
     text.extend(second)?;
     Ok(text)
 }
 
-/// The labels with dots between.
-fn join_labels(alloc: Global, labels: &[Label]) -> Result<Octets, NoMemory>
-    requires { list_all is_label labels.now ≡ true }
-    ensures { IfOk result (λ t. t ≡ joined labels.now) }
+/// The number of labels in a text.
+fn count_labels(text: &[u8]) -> u64
+    ensures { result ≡ length (labels_in text.now) }
 {
-    let mut text = Octets::new(alloc);
-    for label in labels {
-        text = glue(alloc, text.as_slice(), label.text())?;
+    if text.is_empty() {
+        return 0;
     }
-    Ok(text)
+    count_dots(text) as u64 + 1
 }
 
-/// The path that `rest` names as it is seen from `base`.
-pub fn join(alloc: Global, base: &Path, rest: &Path) -> Result<Path, NoMemory>
-    requires { length base.now + length rest.now ≤ 8 }
-    ensures { IfOk result (λ p. p ≡ base.now ++ rest.now) }
+/// The number of dots in a text.
+pub(crate) fn count_dots(text: &[u8]) -> usize
+    ensures { result ≡ count_by (λ c. c == dot) text.now }
 {
-    let mut labels = Vec::new(alloc);
-    push_copies(&mut labels, base.labels.as_slice())?;
-    push_copies(&mut labels, rest.labels.as_slice())?;
-    let text = glue(alloc, base.text.as_slice(), rest.text.as_slice())?;
-    Ok(Path { labels, text })
+    text.iter().filter(|c| **c == b'.').count()
+}
+
+/// The text before its last dot, and none where it has no dot.
+fn before_last_dot(text: &[u8]) -> &[u8]
+    ensures { result.now ≡ before_last_dot text.now }
+{
+    let mut rest = text;
+    while let Some((last, front)) = rest.split_last() {
+        if *last == b'.' {
+            return front;
+        }
+        rest = front;
+    }
+    rest
+}
+
+/// Whether the labels of the first text begin with those of the second.
+fn is_text_under(text: &[u8], above: &[u8]) -> bool
+    ensures { result ≡ is_text_under text.now above.now }
+{
+    if above.is_empty() {
+        return true;
+    }
+    match text.strip_prefix(above) {
+        Some([]) => true,
+        Some([first, ..]) => *first == b'.',
+        None => false,
+    }
 }

@@ -1,18 +1,16 @@
 ghost use Rattle.std.specs.Prelude.{◌≡◌, ◌++◌, ◌∷◌, [], ◌&&◌, nat_lt, length, ℕ, List, Some, IfOk, OnOk, OnErr};
-ghost use Rattle.std.specs.Bool.{OnTrue};
-ghost use Rattle.vn_types.specs.Words.{is_label};
-ghost use Rattle.vn_types.specs.Paths.{path_text};
+ghost use Rattle.vn_types.specs.Paths.{is_path, path_text};
+ghost use Rattle.vn_types.specs.PathTexts.{pieces};
 ghost use Rattle.vn_types.specs.PathWords.{labels_of, path_of};
 
-use crate::cut::cut;
-use crate::label::Label;
 use crate::memory::NoMemory;
-use crate::octets::Octets;
-use crate::path::Path;
+use crate::path::{Path, count_dots};
+use crate::text::{cut, put};
+use crate::words::is_label;
 use std::alloc::Global;
 
 /// The most labels that a path has.
-const MOST_LABELS: usize = 8;
+pub const MOST_LABELS: usize = 8;
 
 /// The path that a text spells: `host`, or 1 to 8 labels with dots between.
 pub fn read_path(alloc: Global, text: &[u8]) -> Result<Option<Path>, NoMemory>
@@ -29,37 +27,25 @@ pub fn read_path(alloc: Global, text: &[u8]) -> Result<Option<Path>, NoMemory>
 fn read_labels(alloc: Global, text: &[u8]) -> Result<Option<Path>, NoMemory>
     ensures { IfOk result (λ r. r ≡ labels_of text.now) }
 {
-    let mut labels = Vec::new(alloc);
+    if !are_labels(text) {
+        return Ok(None);
+    }
+    let path = Path::spelt(alloc, text)?;
+    Ok(Some(path))
+}
+
+/// Whether a text is 1 to 8 labels with dots between.
+fn are_labels(text: &[u8]) -> bool
+    ensures { result ≡ is_path (pieces text.now) }
+{
     let mut rest = text;
     while let Some((piece, more)) = cut(rest, b'.') {
-        if !push_label(&mut labels, piece)? {
-            return Ok(None);
+        if !is_label(piece) {
+            return false;
         }
         rest = more;
     }
-    if !push_label(&mut labels, rest)? {
-        return Ok(None);
-    }
-    let text = Octets::from_slice(alloc, text)?;
-    Ok(Some(Path::spelt(labels, text)))
-}
-
-/// Puts a label at the end, where the text is one and there is room for it.
-#[tactic(auto, unfolding(crate::specs::NameWords::label_of))]
-fn push_label(labels: &mut Vec<Label>, text: &[u8]) -> Result<bool, NoMemory>
-    ensures test { IfOk result (λ b. b ≡ (is_label text.now && nat_lt (length labels.old.items) 8)) }
-    ensures pushed { IfOk result (λ b. OnTrue b (labels.new.items ≡ labels.old.items ++ text.now ∷ [])) }
-{
-    if labels.len() >= MOST_LABELS {
-        return Ok(false);
-    }
-    let Some(label) = Label::read(*labels.allocator(), text)? else {
-        return Ok(false);
-    };
-    if labels.push(label).is_err() {
-        return Err(NoMemory);
-    }
-    Ok(true)
+    is_label(rest) && count_dots(text) < MOST_LABELS
 }
 
 /// Puts a path's text at the end of the output.
@@ -69,8 +55,5 @@ pub fn write_path(path: &Path, out: &mut Vec<u8>) -> Result<(), NoMemory>
     // What is written is read.
     ensures read_back { path_of (path_text path.now) ≡ Some path.now }
 {
-    if out.extend_from_slice(path.text()).is_err() {
-        return Err(NoMemory);
-    }
-    Ok(())
+    put(path.text(), out)
 }

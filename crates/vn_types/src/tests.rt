@@ -2,83 +2,25 @@ use super::*;
 use std::alloc::Global;
 use std::cmp::Ordering;
 
-// The first and the last address of each class of RFC 791, section 3.2, and texts that are no address.
-#[test]
-fn numbers(rt: HostRuntime) {
-    let cases: [(&[u8], Option<u32>); 12] = [
-        (b"0.0.0.0", Some(0)),
-        (b"127.255.255.255", Some(0x7fff_ffff)),
-        (b"128.0.0.0", Some(0x8000_0000)),
-        (b"191.255.255.255", Some(0xbfff_ffff)),
-        (b"192.0.0.0", Some(0xc000_0000)),
-        (b"255.255.255.255", Some(u32::MAX)),
-        (b"256.0.0.1", None),
-        (b"10.0.0.256", None),
-        (b"10.0.0", None),
-        (b"10.0.0.1.1", None),
-        (b"10..0.1", None),
-        (b"10.0.0.01", None),
-    ];
-    for (text, number) in cases {
-        assert_eq!(rt; read_ip4(text).map(|ip| ip.0), number);
-    }
-    assert_eq!(rt; read_number(b"18446744073709551615"), Some(u64::MAX));
-    assert_eq!(rt; read_number(b"18446744073709551616"), None);
-    assert_eq!(rt; read_number(b"+1"), None);
-    let Some(mac) = read_mac(b"02:00:00:12:d6:0A") else {
-        panic!(rt; "a MAC");
-    };
-    assert_eq!(rt; mac.0, [2, 0, 0, 18, 214, 10]);
-}
-
-// Writes what a text reads as, where it reads.
-fn again(alloc: Global, kind: &str, text: &[u8], out: &mut Vec<u8>) -> Result<(), NoMemory> {
-    match kind {
-        "ip" => match read_ip4(text) {
-            Some(ip) => write_ip4(ip, out),
-            None => Ok(()),
-        },
-        "prefix" => match read_prefix(text) {
-            Some(prefix) => write_prefix(prefix, out),
-            None => Ok(()),
-        },
-        "mac" => match read_mac(text) {
-            Some(mac) => write_mac(mac, out),
-            None => Ok(()),
-        },
-        "ifname" => match read_ifname(text) {
-            Some(name) => write_ifname(name, out),
-            None => Ok(()),
-        },
-        "path" => match read_path(alloc, text)? {
-            Some(path) => write_path(&path, out),
-            None => Ok(()),
-        },
-        "half" => match read_half(alloc, text)? {
-            Some(half) => write_half(&half, out),
-            None => Ok(()),
-        },
-        "name" => match Name::read(alloc, text)? {
-            Some(name) => put(name.text(), out),
-            None => Ok(()),
-        },
-        "sock" => match SockName::read(alloc, text)? {
-            Some(name) => put(name.text(), out),
-            None => Ok(()),
-        },
-        _ => Err(NoMemory),
-    }
-}
-
-fn put(text: &[u8], out: &mut Vec<u8>) -> Result<(), NoMemory> {
-    if out.extend_from_slice(text).is_err() {
-        return Err(NoMemory);
-    }
-    Ok(())
-}
-
-// Each kind of word, a text, and what it is written as again: `-`, where it is refused.
-const WORDS: &str = "ip 10.0.0.2 10.0.0.2
+// Each kind of word, a text, and what it is written as again: `-`, where it is refused. The addresses are the first
+// and the last of each class of RFC 791, section 3.2.
+const WORDS: &str = "address 0.0.0.0 0
+address 127.255.255.255 2147483647
+address 128.0.0.0 2147483648
+address 191.255.255.255 3221225471
+address 192.0.0.0 3221225472
+address 255.255.255.255 4294967295
+address 256.0.0.1 -
+address 10.0.0.256 -
+address 10.0.0 -
+address 10.0.0.1.1 -
+address 10..0.1 -
+address 10.0.0.01 -
+number 18446744073709551615 18446744073709551615
+number 18446744073709551616 -
+number +1 -
+octets 02:00:00:12:d6:0A 2.0.0.18.214.10.
+ip 10.0.0.2 10.0.0.2
 prefix 10.0.0.1/24 10.0.0.1/24
 prefix 0.0.0.0/0 0.0.0.0/0
 prefix 255.255.255.255/32 255.255.255.255/32
@@ -129,31 +71,23 @@ sock abcdefghijklmn15 abcdefghijklmn15
 sock abcdefghijklmno16 -
 sock 1s -
 sock s_ -
-sock  -";
+sock  -
+labels host 
+labels a-1.b_2 a-1/b_2/
+order host/a < joined
+order a/host > under joined
+order a.b/a > under joined
+order ab/a > joined
+order a-b/a.b < joined
+order a.b/a.b = under joined";
 
+// Words as they are read and written again, and the numbers of FreeBSD's errno(2).
 #[test]
-fn words(rt: HostRuntime) {
+fn texts(rt: HostRuntime) {
     for line in WORDS.lines() {
         assert!(rt; is_right(rt.alloc(), line), "{line}");
     }
-}
-
-fn is_right(alloc: Global, line: &str) -> bool {
-    let Some((kind, rest)) = line.split_once(' ') else {
-        return false;
-    };
-    let Some((text, want)) = rest.split_once(' ') else {
-        return false;
-    };
-    let want = if want == "-" { "" } else { want };
-    let mut out = Vec::new(alloc);
-    again(alloc, kind, text.as_bytes(), &mut out).is_ok() && out.as_slice() == want.as_bytes()
-}
-
-// The numbers of FreeBSD's errno(2).
-#[test]
-fn errnos(rt: HostRuntime) {
-    let cases: [(Errno, u8, &str); 19] = [
+    let errnos: [(Errno, u8, &str); 19] = [
         (Errno::Perm, 1, "EPERM"),
         (Errno::NoEnt, 2, "ENOENT"),
         (Errno::Srch, 3, "ESRCH"),
@@ -174,49 +108,133 @@ fn errnos(rt: HostRuntime) {
         (Errno::HostDown, 64, "EHOSTDOWN"),
         (Errno::HostUnreach, 65, "EHOSTUNREACH"),
     ];
-    for (errno, number, name) in cases {
+    for (errno, number, name) in errnos {
         assert_eq!(rt; errno.number(), number);
         assert_eq!(rt; errno.name(), name);
     }
 }
 
-// Host is first, and `-` is below `.`: paths are in the order of their texts.
-#[test]
-fn paths(rt: HostRuntime) {
-    let cases: [(&[u8], &[u8], Ordering, bool); 6] = [
-        (b"host", b"a", Ordering::Less, false),
-        (b"a", b"host", Ordering::Greater, true),
-        (b"a.b", b"a", Ordering::Greater, true),
-        (b"ab", b"a", Ordering::Greater, false),
-        (b"a-b", b"a.b", Ordering::Less, false),
-        (b"a.b", b"a.b", Ordering::Equal, true),
-    ];
-    for (first, second, order, under) in cases {
-        assert!(rt; compared(rt.alloc(), first, second) == Some((order, under)));
-        assert!(rt; is_joined(rt.alloc(), first, second));
+fn is_right(alloc: Global, line: &str) -> bool {
+    let Some((kind, rest)) = line.split_once(' ') else {
+        return false;
+    };
+    let Some((text, want)) = rest.split_once(' ') else {
+        return false;
+    };
+    let want = if want == "-" { "" } else { want };
+    let mut out = Vec::new(alloc);
+    again(alloc, kind, text.as_bytes(), &mut out).is_ok() && out.as_slice() == want.as_bytes()
+}
+
+// Writes what a text reads as, where it reads.
+fn again(alloc: Global, kind: &str, text: &[u8], out: &mut Vec<u8>) -> Result<(), NoMemory> {
+    match kind {
+        "address" => match read_ip4(text) {
+            Some(ip) => put_number(u64::from(ip.0), out),
+            None => Ok(()),
+        },
+        "number" => match read_number(text) {
+            Some(number) => put_number(number, out),
+            None => Ok(()),
+        },
+        "ip" => match read_ip4(text) {
+            Some(ip) => write_ip4(ip, out),
+            None => Ok(()),
+        },
+        "prefix" => match read_prefix(text) {
+            Some(prefix) => write_prefix(prefix, out),
+            None => Ok(()),
+        },
+        "octets" => match read_mac(text) {
+            Some(mac) => put_octets(mac, out),
+            None => Ok(()),
+        },
+        "mac" => match read_mac(text) {
+            Some(mac) => write_mac(mac, out),
+            None => Ok(()),
+        },
+        "ifname" => match read_ifname(text) {
+            Some(name) => write_ifname(name, out),
+            None => Ok(()),
+        },
+        _ => name_again(alloc, kind, text, out),
     }
 }
 
-fn compared(alloc: Global, first: &[u8], second: &[u8]) -> Option<(Ordering, bool)> {
-    let first = read_path(alloc, first).ok()??;
-    let second = read_path(alloc, second).ok()??;
-    Some((first.cmp(&second), first.is_under(&second)))
+fn name_again(alloc: Global, kind: &str, text: &[u8], out: &mut Vec<u8>) -> Result<(), NoMemory> {
+    match kind {
+        "path" => match read_path(alloc, text)? {
+            Some(path) => write_path(&path, out),
+            None => Ok(()),
+        },
+        "labels" => match read_path(alloc, text)? {
+            Some(path) => put_labels(&path, out),
+            None => Ok(()),
+        },
+        "order" => put_order(alloc, text, out),
+        "half" => match read_half(alloc, text)? {
+            Some(half) => write_half(&half, out),
+            None => Ok(()),
+        },
+        "name" => match Name::read(alloc, text)? {
+            Some(name) => put(name.text(), out),
+            None => Ok(()),
+        },
+        "sock" => match SockName::read(alloc, text)? {
+            Some(name) => put(name.text(), out),
+            None => Ok(()),
+        },
+        _ => Err(NoMemory),
+    }
+}
+
+fn put_octets(mac: Mac, out: &mut Vec<u8>) -> Result<(), NoMemory> {
+    for octet in mac.0 {
+        put_number(u64::from(octet), out)?;
+        put(b".", out)?;
+    }
+    Ok(())
+}
+
+fn put_labels(path: &Path, out: &mut Vec<u8>) -> Result<(), NoMemory> {
+    let labels = path.labels()?;
+    for label in labels.as_slice() {
+        put(label.text(), out)?;
+        put(b"/", out)?;
+    }
+    Ok(())
+}
+
+// How two paths compare: host is first, and `-` is below `.`, as in the order of their texts.
+fn put_order(alloc: Global, text: &[u8], out: &mut Vec<u8>) -> Result<(), NoMemory> {
+    let Some((first, second)) = cut(text, b'/') else {
+        return Ok(());
+    };
+    let (Some(first), Some(second)) = (read_path(alloc, first)?, read_path(alloc, second)?) else {
+        return Ok(());
+    };
+    let order: &[u8] = match first.cmp(&second) {
+        Ordering::Less => b"<",
+        Ordering::Equal => b"=",
+        Ordering::Greater => b">",
+    };
+    put(order, out)?;
+    if first.is_under(&second) {
+        put(b" under", out)?;
+    }
+    if is_joined(alloc, &first, &second)? {
+        put(b" joined", out)?;
+    }
+    Ok(())
 }
 
 // Whether two short paths in a row are as deep as both, and a copy of them is the same.
-fn is_joined(alloc: Global, first: &[u8], second: &[u8]) -> bool {
-    let (Ok(Some(first)), Ok(Some(second))) = (read_path(alloc, first), read_path(alloc, second))
-    else {
-        return false;
-    };
-    if first.depth() + second.depth() > 8 {
-        return false;
+fn is_joined(alloc: Global, first: &Path, second: &Path) -> Result<bool, NoMemory> {
+    let depth = first.depth() + second.depth();
+    if depth > 8 {
+        return Ok(false);
     }
-    let Ok(both) = join(alloc, &second, &first) else {
-        return false;
-    };
-    let Ok(copy) = both.copy() else {
-        return false;
-    };
-    both.depth() == first.depth() + second.depth() && both.is_under(&second) && copy == both
+    let both = join(alloc, second, first)?;
+    let copy = both.copy()?;
+    Ok(both.depth() == depth && both.is_under(second) && copy == both)
 }

@@ -1,9 +1,0 @@
-use Rattle.std.proofs.Common.{◌≡◌, ◌++◌, take, length}
-use Rattle.std.specs.List.{flat_map}
-use Rattle.vn_types.proofs.put.put_all.Given as goal
-
-abbrev pub invariant-loop-part : goal.invariant-loop-part
-invariant-loop-part l = record {
-  so_far : l.out.items ≡ l.fn.out.items ++ flat_map (λ part. part.now) (take l.part-index l.parts);
-  start_is : l.start ≡ length l.fn.out.items;
-}
