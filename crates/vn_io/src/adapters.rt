@@ -1,13 +1,15 @@
-ghost use Rattle.std.specs.Prelude.{◌≡◌, ◌<◌, ◌≤◌, None, length, take};
-ghost use Rattle.std.specs.Io.KnownBytes.{Appends, Consumes, IsAtEnd, Keeps};
-ghost use Rattle.vn_io.specs.Answers.{IfCount, OnFailed};
-ghost use Rattle.vn_io.specs.Counts.{next_count};
+ghost use Rattle.std.specs.Prelude.{◌≡◌, ◌<◌, ◌≤◌, length, take};
+ghost use Rattle.std.specs.Io.KnownBytes.{Appends, Keeps};
+ghost use Rattle.vn_io.specs.Answers.{IfCount, OnCount, OnFailed};
+ghost use Rattle.vn_io.specs.Counts.{RoseByOne, Stayed};
 
+use crate::failures::failed;
 use crate::outside::{Io, Sink, Source};
 use std::io::{Read, Write};
 use std::marker::Model;
 
-/// A reader of std, as a file, a pipe or a terminal. As a source it tells none of its octets.
+/// A reader of std, as a file, a pipe or a terminal. As a source it tells the octets that std knows
+/// of the reader; of a file, a pipe or a terminal std knows none.
 #[derive(Drop)]
 pub struct ReadSource<R: Read> {
     reader: R,
@@ -32,26 +34,14 @@ impl<R: Read> ReadSource<R> {
 }
 
 impl<R: Read> Source for ReadSource<R> {
-    ghost left = { λ _. None };
+    ghost left = { λ s. s.known };
 
     ghost faults = { λ s. s.faults };
 
-    fn read(&mut self, into: &mut [u8]) -> Io
-        ensures within { IfCount result (λ n. n ≤ length into.new) }
-        ensures reader { IfCount result (λ n. Consumes self.old.known self.new.known (take n into.new)) }
-        ensures end { IfCount result (λ n. n ≡ 0 → 0 < length into.new → IsAtEnd self.new.known) }
-        ensures counted { IfCount result (λ _. self.new.faults ≡ self.old.faults) }
-
-        ensures reader_kept { OnFailed result (Keeps self.old.known self.new.known) }
-        ensures failed { OnFailed result (self.new.faults ≡ next_count self.old.faults) }
-        ensures never_falls { self.old.faults ≤ self.new.faults }
-    {
+    fn read(&mut self, into: &mut [u8]) -> Io {
         match self.reader.read(into) {
             Ok(count) => Io::Count(count),
-            Err(_) => {
-                self.faults = self.faults.saturating_add(1);
-                Io::Failed
-            }
+            Err(_) => failed(&mut self.faults),
         }
     }
 
@@ -60,7 +50,8 @@ impl<R: Read> Source for ReadSource<R> {
     }
 }
 
-/// A writer of std, as a file, a pipe or a terminal. As a sink it tells none of its octets.
+/// A writer of std, as a file, a pipe or a terminal. As a sink it tells the octets that std knows
+/// of the writer; of a file, a pipe or a terminal std knows none.
 #[derive(Drop)]
 pub struct WriteSink<W: Write> {
     writer: W,
@@ -85,27 +76,31 @@ impl<W: Write> WriteSink<W> {
 }
 
 impl<W: Write> Sink for WriteSink<W> {
-    ghost written = { λ _. None };
+    ghost written = { λ s. s.known };
 
     ghost faults = { λ s. s.faults };
 
     fn write(&mut self, from: &[u8]) -> Io
         ensures within { IfCount result (λ n. n ≤ length from.now) }
-        ensures writer { IfCount result (λ n. Appends self.old.known self.new.known (take n from.now)) }
+        ensures octets { IfCount result (λ n.
+            Appends self.old.known self.new.known (take n from.now)) }
         ensures some { IfCount result (λ n. 0 < length from.now → 0 < n) }
-        ensures counted { IfCount result (λ _. self.new.faults ≡ self.old.faults) }
+        ensures counted { OnCount result (Stayed self.old.faults self.new.faults) }
+        // The writer is not called for an empty piece.
+        ensures empty { length from.now ≡ 0 → result ≡ Io.Count 0 }
+        ensures unused { length from.now ≡ 0 → self.new ≡ self.old }
 
-        ensures writer_kept { OnFailed result (Keeps self.old.known self.new.known) }
-        ensures failed { OnFailed result (self.new.faults ≡ next_count self.old.faults) }
+        ensures none { OnFailed result (Keeps self.old.known self.new.known) }
+        ensures cause { OnFailed result (RoseByOne self.old.faults self.new.faults) }
         ensures never_falls { self.old.faults ≤ self.new.faults }
     {
+        if from.is_empty() {
+            return Io::Count(0);
+        }
         match self.writer.write(from) {
-            Ok(count) if count > 0 || from.is_empty() => Io::Count(count),
             // std may take nothing of a piece, and would then be asked for ever.
-            _ => {
-                self.faults = self.faults.saturating_add(1);
-                Io::Failed
-            }
+            Ok(0) | Err(_) => failed(&mut self.faults),
+            Ok(count) => Io::Count(count),
         }
     }
 

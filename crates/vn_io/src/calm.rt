@@ -45,9 +45,12 @@ impl Source for CalmSource {
     fn read(&mut self, into: &mut [u8]) -> Io
         ensures count { result
             ≡ Io.Count (min (min (length into.old) self.old.piece) (length self.old.left)) }
-        ensures given { IfCount result (λ n. into.new ≡ take n self.old.left ++ drop n into.old) }
-        ensures taken { IfCount result (λ n. self.new ≡ record self.old { left = drop n self.old.left }) }
-        ensures end { IfCount result (λ n. n ≡ 0 → 0 < length into.new → self.new.left ≡ []) }
+        ensures given { IfCount result (λ n.
+            into.new ≡ take n self.old.left ++ drop n into.old) }
+        ensures taken { IfCount result (λ n.
+            self.new ≡ record self.old { left = drop n self.old.left }) }
+        ensures end { IfCount result (λ n.
+            n ≡ 0 → 0 < length into.new → self.new.left ≡ []) }
     {
         let rest = &self.octets[self.at..];
         let count = into.len().min(self.piece).min(rest.len());

@@ -3,6 +3,7 @@
 
 mod adapters;
 mod calm;
+mod failures;
 mod memory;
 mod outside;
 mod whole;

@@ -3,6 +3,7 @@ ghost use Rattle.vn_io.specs.Answers.{IfCount, OnFailed};
 ghost use Rattle.vn_io.specs.Counts.{next_count};
 
 use crate::calm::CalmSource;
+use crate::failures::failed;
 use crate::outside::{Io, Sink, Source};
 use std::alloc::Global;
 use std::marker::Model;
@@ -58,15 +59,19 @@ impl Source for MemSource {
     ghost faults = { λ s. s.faults };
 
     fn read(&mut self, into: &mut [u8]) -> Io
-        ensures count { IfCount result (λ n. n ≡ min (min (length into.old) self.old.piece) (length self.old.left)) }
-        ensures given { IfCount result (λ n. into.new ≡ take n self.old.left ++ drop n into.old) }
+        ensures count { IfCount result (λ n.
+            n ≡ min (min (length into.old) self.old.piece) (length self.old.left)) }
+        ensures given { IfCount result (λ n.
+            into.new ≡ take n self.old.left ++ drop n into.old) }
         ensures taken { IfCount result (λ n. self.new ≡ record self.old {
           left = drop n self.old.left;
           calls = next_count self.old.calls;
         }) }
-        ensures end { IfCount result (λ n. n ≡ 0 → 0 < length into.new → self.new.left ≡ []) }
+        ensures end { IfCount result (λ n.
+            n ≡ 0 → 0 < length into.new → self.new.left ≡ []) }
 
-        ensures listed { (result ≡ Io.Failed) ↔ Contains self.old.failing (next_count self.old.calls) }
+        ensures listed { (result ≡ Io.Failed)
+            ↔ Contains self.old.failing (next_count self.old.calls) }
         ensures failed { OnFailed result (self.new ≡ record self.old {
           calls = next_count self.old.calls;
           faults = next_count self.old.faults;
@@ -76,8 +81,7 @@ impl Source for MemSource {
     {
         self.calls = self.calls.saturating_add(1);
         if self.failing.contains(&self.calls) {
-            self.faults = self.faults.saturating_add(1);
-            return Io::Failed;
+            return failed(&mut self.faults);
         }
         self.source.read(into)
     }
@@ -158,7 +162,8 @@ impl Sink for MemSink {
         }) }
         ensures some { IfCount result (λ n. 0 < length from.now → 0 < n) }
 
-        ensures listed { Contains self.old.failing (next_count self.old.calls) → result ≡ Io.Failed }
+        ensures listed { Contains self.old.failing (next_count self.old.calls)
+            → result ≡ Io.Failed }
         // An empty piece wants no memory.
         ensures empty { result ≡ Io.Failed → length from.now ≡ 0
             → Contains self.old.failing (next_count self.old.calls) }
@@ -173,8 +178,7 @@ impl Sink for MemSink {
         if self.failing.contains(&self.calls)
             || self.octets.extend_from_slice(&from[..count]).is_err()
         {
-            self.faults = self.faults.saturating_add(1);
-            return Io::Failed;
+            return failed(&mut self.faults);
         }
         Io::Count(count)
     }

@@ -1,6 +1,6 @@
 ghost use Rattle.std.specs.Prelude.{◌≡◌, ◌+◌, ◌<◌, ◌≤◌, IfOk, IfSome, IsErrOf, OnErr, OnOk, length, vec_len};
 ghost use Rattle.std.specs.Io.KnownBytes.{Appends, IsAtEnd};
-ghost use Rattle.vn_io.specs.Counts.{Rose};
+ghost use Rattle.vn_io.specs.Counts.{RoseByOne, Stayed};
 ghost use Rattle.vn_io.specs.Transfers.{AppendsPart, ConsumesAtMost, ConsumesExactly};
 
 use crate::outside::{Io, Sink, Source};
@@ -26,15 +26,20 @@ pub fn read_to_end<S: Source>(
     source: &mut S,
     limit: usize,
 ) -> Result<Vec<u8>, ReadError>
-    ensures whole { IfOk result (λ octets. IfSome (S.left source.old) (λ all. octets.items ≡ all)) }
+    ensures whole { IfOk result (λ octets.
+        IfSome (S.left source.old) (λ all. octets.items ≡ all)) }
     ensures end { OnOk result (IsAtEnd (S.left source.new)) }
     ensures within { IfOk result (λ octets. vec_len octets ≤ limit) }
 
-    ensures too_long { IsErrOf result ReadError.TooLong → IfSome (S.left source.old) (λ all. limit < length all) }
+    ensures too_long { IsErrOf result ReadError.TooLong
+        → IfSome (S.left source.old) (λ all. limit < length all) }
     ensures stops { IsErrOf result ReadError.TooLong
         → ConsumesExactly (S.left source.old) (S.left source.new) (limit + 1) }
-    ensures failed { IsErrOf result ReadError.Failed → Rose (S.faults source.old) (S.faults source.new) }
+    ensures failed { IsErrOf result ReadError.Failed
+        → RoseByOne (S.faults source.old) (S.faults source.new) }
 
+    ensures counted { ¬ IsErrOf result ReadError.Failed
+        → Stayed (S.faults source.old) (S.faults source.new) }
     ensures bounded { ConsumesAtMost (S.left source.old) (S.left source.new) (limit + 1) }
     ensures never_falls { S.faults source.old ≤ S.faults source.new }
 {
@@ -63,7 +68,8 @@ pub struct WriteError;
 pub fn write_all<K: Sink>(sink: &mut K, octets: &[u8]) -> Result<(), WriteError>
     ensures ok { OnOk result (Appends (K.written sink.old) (K.written sink.new) octets.now) }
     ensures part { OnErr result (AppendsPart (K.written sink.old) (K.written sink.new) octets.now) }
-    ensures failed { OnErr result (Rose (K.faults sink.old) (K.faults sink.new)) }
+    ensures failed { OnErr result (RoseByOne (K.faults sink.old) (K.faults sink.new)) }
+    ensures counted { OnOk result (Stayed (K.faults sink.old) (K.faults sink.new)) }
     ensures never_falls { K.faults sink.old ≤ K.faults sink.new }
 {
     let mut done = 0;

@@ -1,4 +1,4 @@
-use Rattle.std.proofs.Common.{◌≡◌, ℕ, ◌+◌, List, Option, take, drop, sym, subst, arith, length-drop, length-take}
+use Rattle.std.proofs.Common.{◌≡◌, ◌∙◌, ℕ, ◌+◌, List, Option, take, drop, sym, subst, arith, length-drop, length-take}
 use Rattle.std.proofs.Math.Seq.{take-add}
 use Rattle.std.proofs.lemmas.List.{take_rest}
 use Rattle.std.proofs.KnownBytes.{Appends-trans}
@@ -15,5 +15,5 @@ pub loop-done-preserved : goal.loop-done-preserved
 loop-done-preserved g c = record {
   given = Appends-next _ _ _ _ _ c.loop-done.done c.in-Count.taken (take_rest c.args.octets.now c.loop-done.done) c.loop-done.invariant.given c.in-Count.ensures.octets;
   few = omega (arith, c.in-Count.ensures.within, length-take {A = ℕ}, length-drop {A = ℕ});
-  later = omega (arith, c.loop-done.invariant.later, c.in-Count.ensures.never_falls);
+  counted = c.in-Count.ensures.counted ∙ c.loop-done.invariant.counted;
 }
