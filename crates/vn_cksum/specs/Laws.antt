@@ -17,18 +17,22 @@ KeepsNoOrder = (ws vs : List ℕ) → AreWords ws → IsPermutation ws vs → su
 
 -- octets in a row, the first of them of an even length, have the sum of their sums
 abbrev pub AddsRows : Type 0
-AddsRows = (xs ys : List ℕ) → AreOctets xs → AreOctets ys → length xs % 2 ≡ 0 → sum_of (xs ++ ys) ≡ plus16 (sum_of xs) (sum_of ys)
+AddsRows = (xs ys : List ℕ) → AreOctets xs → AreOctets ys → length xs % 2 ≡ 0
+    → sum_of (xs ++ ys) ≡ plus16 (sum_of xs) (sum_of ys)
 
 -- and a sum, as the two octets of a word, may stand for those that it is the sum of
 abbrev pub StandsForRow : Type 0
-StandsForRow = (xs ys : List ℕ) → AreOctets xs → AreOctets ys → length xs % 2 ≡ 0 → sum_of (big_bytes 2 (sum_of xs) ++ ys) ≡ sum_of (xs ++ ys)
+StandsForRow = (xs ys : List ℕ) → AreOctets xs → AreOctets ys → length xs % 2 ≡ 0
+    → sum_of (big_bytes 2 (sum_of xs) ++ ys) ≡ sum_of (xs ++ ys)
 
 -- a new word in the place of an old one changes the sum by their folded difference (RFC 1624, equation 3),
 -- unless nothing but zeros is left: then the sum is 0
 abbrev pub ReplacesWord : Type 0
-ReplacesWord = (front back : List ℕ) (old new : ℕ) → AreWords front → AreWords back → old < 65536 → new < 65536
+ReplacesWord = (front back : List ℕ) (old new : ℕ) → AreWords front → AreWords back
+    → old < 65536 → new < 65536
     → sum_words (front ++ new ∷ back) ≢ 0
-    → sum_words (front ++ new ∷ back) ≡ plus16 (plus16 (sum_words (front ++ old ∷ back)) (complement old)) new
+    → sum_words (front ++ new ∷ back)
+    ≡ plus16 (plus16 (sum_words (front ++ old ∷ back)) (complement old)) new
 
 -- with the complement in the field that was 0, the whole sum is 65535
 abbrev pub Completes : Type 0
@@ -42,4 +46,5 @@ IsZeroOfZeros = (xs : List ℕ) → (sum_of xs ≡ 0) ↔ All (λ x. x ≡ 0) xs
 -- in a field, 65535 counts as 0 does, unless all else is zeros
 abbrev pub HasTwoZeros : Type 0
 HasTwoZeros = (front back : List ℕ) → AreOctets front → AreOctets back → length front % 2 ≡ 0
-    → sum_of (front ++ 0 ∷ 0 ∷ back) ≢ 0 → sum_of (front ++ 255 ∷ 255 ∷ back) ≡ sum_of (front ++ 0 ∷ 0 ∷ back)
+    → sum_of (front ++ 0 ∷ 0 ∷ back) ≢ 0
+    → sum_of (front ++ 255 ∷ 255 ∷ back) ≡ sum_of (front ++ 0 ∷ 0 ∷ back)

@@ -5,6 +5,7 @@ use Rattle.std.specs.Prelude.{ℕ, ◌+◌, ◌-◌, ◌*◌, ◌/◌, ◌%◌, 
 unfoldable pub plus16 : ℕ → ℕ → ℕ
 plus16 a b = (a + b) % 65536 + (a + b) / 65536
 
+-- the sum of words
 unfoldable pub sum_words : List ℕ → ℕ
 sum_words [] = 0
 sum_words (w ∷ ws) = plus16 w (sum_words ws)
@@ -27,8 +28,10 @@ complement sum = 65535 - sum
 abbrev pub folded : ℕ → ℕ
 folded total = if total == 0 then 0 else (total - 1) % 65535 + 1
 
-abbrev pub AreOctets : List ℕ → Type 0
-AreOctets xs = All (λ x. x < 256) xs
-
+-- words are numbers below 65536
 abbrev pub AreWords : List ℕ → Type 0
 AreWords ws = All (λ w. w < 65536) ws
+
+-- and octets below 256
+abbrev pub AreOctets : List ℕ → Type 0
+AreOctets xs = All (λ x. x < 256) xs
