@@ -1,45 +1,37 @@
 -- A frame's octets are its header and its payload.
-use Rattle.std.proofs.Common.{◌≡◌, ℕ, ◌<◌, ◌≤◌, false, nat_lt, List, ◌++◌, length, drop, Ok, refl, ap, ◌∙◌, append_assoc, length-append, arith}
+use Rattle.std.proofs.Common.{◌≡◌, ℕ, ◌<◌, ◌≤◌, ◌^◌, false, nat_lt, List, ◌++◌, length, drop, Ok, refl, ap, ◌∙◌, arith}
 use Rattle.std.proofs.lemmas.Bool.Decides.{nat_tests}
-use Rattle.byteorder.specs.Endian.{big_bytes}
+use Rattle.std.proofs.lemmas.List.{take-append-drop}
+use Rattle.vn_types.specs.Fields.{AreOctets, spelled}
 use Rattle.vn_types.specs.declared.address.Mac.{Mac}
-use Rattle.vn_link.specs.Frames.{EthFrame, frame_of, eth_of, eth_header}
-use Rattle.vn_link.proofs.Spelling.{AreOctets, number_at_2, last_field, field_before, behind_field, leading_field, leading_number}
+use Rattle.vn_types.proofs.FieldLaws.{IsFormat, reads-back, spells}
+use Rattle.vn_link.specs.Macs.{IsMac, mac_of, number_of}
+use Rattle.vn_link.specs.Frames.{Header, EthFrame, ethernet_header, eth_header, eth_of, frame_in, frame_of, header_for, header_of}
+use Rattle.vn_link.proofs.MacLaws.{mac-below, mac-number, number-below, number-mac}
 
-abbrev the_frame : List ℕ → List ℕ → ℕ → List ℕ → EthFrame
-the_frame dst src kind payload = record { dst = record { 0 = dst }; src = record { 0 = src }; kind = kind; payload = payload }
+pub is_format : IsFormat ethernet_header
+is_format = record { whole = refl; same_widths = λ value. refl; same_value = λ value. refl; same_values = λ xs. refl }
+
+same-header : (h : Header) → h.destination < 2 ^ 48 → h.source < 2 ^ 48
+    → header_for (mac_of h.destination) (mac_of h.source) h.type_code ≡ h
+same-header h first second = rw (number-mac h.destination first, number-mac h.source second) refl
 
 pub frame-spelled : (xs : List ℕ) → 14 ≤ length xs → AreOctets xs
     → eth_header (frame_of xs).dst (frame_of xs).src (frame_of xs).kind ++ (frame_of xs).payload ≡ xs
-frame-spelled xs l h =
-    field_before 6 0 14 _ _ xs refl
-    (field_before 6 6 14 _ _ xs refl
-    (last_field 2 12 _ xs (number_at_2 12 xs (omega arith) h)))
+frame-spelled xs long octets =
+    ap (λ h. spelled ethernet_header h ++ drop 14 xs) (same-header (header_of xs) (number-below 0 xs octets) (number-below 6 xs octets))
+    ∙ ap (λ ys. ys ++ drop 14 xs) (spells ethernet_header is_format xs octets long)
+    ∙ take-append-drop 14 xs
 
-same_frame : (dst src : Mac) (kind : ℕ) (payload : List ℕ) (a b : List ℕ) (n : ℕ) (p : List ℕ)
-    → a ≡ dst.0 → b ≡ src.0 → n ≡ kind → p ≡ payload
-    → the_frame a b n p ≡ record { dst = dst; src = src; kind = kind; payload = payload }
-same_frame dst src kind payload a b n p e f g h =
-    ap (λ x. the_frame x b n p) e ∙ ap (λ x. the_frame dst.0 x n p) f ∙ ap (λ x. the_frame dst.0 src.0 x p) g ∙ ap (λ x. the_frame dst.0 src.0 kind x) h
+abbrev the_frame : Mac → Mac → ℕ → List ℕ → EthFrame
+the_frame dst src kind payload = record { dst = dst; src = src; kind = kind; payload = payload }
 
-frame_of-header : (dst src : Mac) (kind : ℕ) (payload : List ℕ) → length dst.0 ≡ 6 → length src.0 ≡ 6 → kind < 65536
-    → frame_of (eth_header dst src kind ++ payload) ≡ record { dst = dst; src = src; kind = kind; payload = payload }
-frame_of-header dst src kind payload d s k =
-    let xs : List ℕ = eth_header dst src kind ++ payload in
-    let at_dst : xs ≡ dst.0 ++ (src.0 ++ (big_bytes 2 kind ++ payload)) =
-    append_assoc dst.0 (src.0 ++ big_bytes 2 kind) payload ∙ ap (λ (ys : List ℕ). dst.0 ++ ys) (append_assoc src.0 (big_bytes 2 kind) payload) in
-    let at_src : drop 6 xs ≡ src.0 ++ (big_bytes 2 kind ++ payload) = behind_field 6 0 dst.0 _ xs d at_dst in
-    let at_kind : drop 12 xs ≡ big_bytes 2 kind ++ payload = behind_field 6 6 src.0 _ xs s at_src in
-    let at_payload : drop 14 xs ≡ payload = behind_field 2 12 (big_bytes 2 kind) payload xs refl at_kind in
-    same_frame dst src kind payload _ _ _ _
-    (leading_field 6 0 dst.0 _ xs d at_dst)
-    (leading_field 6 6 src.0 _ xs s at_src)
-    (leading_number 2 12 kind payload xs k at_kind)
-    at_payload
-
-pub eth_of-header : (dst src : Mac) (kind : ℕ) (payload : List ℕ) → length dst.0 ≡ 6 → length src.0 ≡ 6 → kind < 65536
+pub eth_of-header : (dst src : Mac) (kind : ℕ) (payload : List ℕ) → IsMac dst → IsMac src → kind < 65536
     → eth_of (eth_header dst src kind ++ payload) ≡ Ok (record { dst = dst; src = src; kind = kind; payload = payload })
-eth_of-header dst src kind payload d s k =
-    let whole : 14 ≤ length (eth_header dst src kind ++ payload) = simp (length-append) (omega (arith, d, s)) in
-    let long : nat_lt (length (eth_header dst src kind ++ payload)) 14 ≡ false = grind (arith, nat_tests, whole) in
-    rw long (ap Ok (frame_of-header dst src kind payload d s k))
+eth_of-header dst src kind payload is is' small =
+    let long : nat_lt (length (eth_header dst src kind ++ payload)) 14 ≡ false = grind (arith, nat_tests) in
+    let back = reads-back ethernet_header is_format (header_for dst src kind) payload (mac-below dst is, (mac-below src is', (small, tt))) in
+    rw long
+    (ap (λ h. Ok (frame_in h payload)) back
+    ∙ ap (λ mac. Ok (the_frame mac (mac_of (number_of src)) kind payload)) (mac-number dst is)
+    ∙ ap (λ mac. Ok (the_frame dst mac kind payload)) (mac-number src is'))

@@ -1,3 +1,3 @@
-pub mod Spelling
+pub mod MacLaws
 pub mod FrameLaws
 pub mod PacketLaws

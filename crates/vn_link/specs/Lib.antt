@@ -1,5 +1,3 @@
-pub mod Fields
-pub mod Refusals
+pub mod Macs
 pub mod Frames
 pub mod Packets
-pub mod Laws

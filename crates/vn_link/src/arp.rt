@@ -1,8 +1,9 @@
-ghost use Rattle.byteorder.specs.Endian.{big_bytes};
-ghost use Rattle.std.specs.Prelude.{◌≡◌, ℕ, ◌<◌, ◌++◌, ◌^◌, ◌⊎◌, ◌≤◌, List, IfNone, IfOk, drop, length};
-ghost use Rattle.vn_link.specs.Packets.{arp_refusal};
+ghost use Rattle.std.specs.Prelude.{◌≡◌, ℕ, ◌<◌, ◌++◌, ◌^◌, ◌⊎◌, ◌≤◌, List, [], ◌∷◌, IfNone, IfOk, drop, length};
+ghost use Rattle.vn_types.specs.Fields.{octets_of};
+ghost use Rattle.vn_link.specs.Macs.{IsMac, number_of};
+ghost use Rattle.vn_link.specs.Packets.{arp_refusal, packet_size};
 
-use crate::mac::leading_mac;
+use crate::mac::{mac_at, write_mac};
 use byteorder::{BigEndian, ByteOrder};
 use vn_types::{Ip4, Mac};
 
@@ -43,6 +44,7 @@ pub struct ArpPacket {
 }
 
 impl ArpPacket {
+    ghost use Rattle.vn_link.specs.declared.arp.TheConstants.{REQUEST, REPLY};
     ghost use Rattle.vn_link.specs.Packets.{IsPacket, arp_octets, arp_of};
 
     /// The packet that octets spell. Those behind it count for nothing.
@@ -50,24 +52,25 @@ impl ArpPacket {
         ensures read { result ≡ arp_of octets.now }
         ensures grammar { IfOk result (λ p. IsPacket octets.now) }
         // A packet is written as it was read.
-        ensures spelled { IfOk result (λ p. arp_octets p ++ drop 28 octets.now ≡ octets.now) }
+        ensures spelled { IfOk result (λ p.
+            arp_octets p ++ drop packet_size octets.now ≡ octets.now) }
     {
-        if let Some(bad) = refusal(octets) {
-            return Err(bad);
+        match refusal(octets) {
+            Some(bad) => Err(bad),
+            None => Ok(ArpPacket {
+                op: BigEndian::read_u16(&octets[6..]),
+                sha: mac_at(octets, 8),
+                spa: Ip4(BigEndian::read_u32(&octets[14..])),
+                tha: mac_at(octets, 18),
+                tpa: Ip4(BigEndian::read_u32(&octets[24..])),
+            }),
         }
-        Ok(ArpPacket {
-            op: BigEndian::read_u16(&octets[6..]),
-            sha: leading_mac(&octets[8..]),
-            spa: Ip4(BigEndian::read_u32(&octets[14..])),
-            tha: leading_mac(&octets[18..]),
-            tpa: Ip4(BigEndian::read_u32(&octets[24..])),
-        })
     }
 
     /// Writes the packet, which is the payload of a frame of type 0x0806.
     pub fn write(&self, out: &mut [u8])
-        requires op { (self.now.op ≡ 1) ⊎ (self.now.op ≡ 2) }
-        requires room { length out.old ≡ 28 }
+        requires op { (self.now.op ≡ REQUEST) ⊎ (self.now.op ≡ REPLY) }
+        requires room { length out.old ≡ packet_size }
         ensures written { out.new ≡ arp_octets self.now }
         // What is written is read, whatever stands behind it.
         ensures read_back { (rest : List ℕ) → arp_of (out.new ++ rest) ≡ Ok self.now }
@@ -91,7 +94,7 @@ impl ArpPacket {
 // ar$pro?", each with a length that is "optionally" checked.
 fn refusal(octets: &[u8]) -> Option<ArpBad>
     ensures first { result ≡ arp_refusal octets.now }
-    ensures long { IfNone result (28 ≤ length octets.now) }
+    ensures long { IfNone result (packet_size ≤ length octets.now) }
 {
     if octets.len() < LENGTH {
         return Some(ArpBad::Short);
@@ -118,11 +121,11 @@ fn refusal(octets: &[u8]) -> Option<ArpBad>
 // A hardware address and a protocol address.
 fn write_addresses(out: &mut [u8], mac: Mac, ip: Ip4)
     requires { length out.old ≡ 10 }
-    ensures written { out.new ≡ mac.0 ++ big_bytes 4 ip.0 }
-    ensures mac { length mac.0 ≡ 6 }
+    ensures written { out.new ≡ octets_of ((48, number_of mac) ∷ (32, ip.0) ∷ []) }
+    ensures mac { IsMac mac }
     ensures ip { ip.0 < 2 ^ 32 }
 {
     let (front, back) = out.split_at_mut(6);
-    front.copy_from_slice(&mac.0);
+    write_mac(front, mac);
     BigEndian::write_u32(back, ip.0);
 }

@@ -1,7 +1,7 @@
 ghost use Rattle.std.specs.Prelude.{◌≡◌, ◌++◌, List, ℕ, length, IfOk};
-ghost use Rattle.vn_link.specs.Frames.{eth_header, eth_of};
+ghost use Rattle.vn_link.specs.Frames.{eth_header, eth_of, header_size};
 
-use crate::mac::leading_mac;
+use crate::mac::{mac_at, write_mac};
 use byteorder::{BigEndian, ByteOrder};
 use std::marker::Model;
 use vn_types::Mac;
@@ -23,13 +23,13 @@ pub struct EthView<'a> {
 
 impl<'a> Model for EthView<'a> {
     ghost use Rattle.std.specs.Prelude.{◌≤◌, length};
-    ghost use Rattle.vn_link.specs.Frames.{EthFrame, frame_of};
+    ghost use Rattle.vn_link.specs.Frames.{EthFrame, frame_of, header_size};
 
     ghost Value = { EthFrame };
 
     ghost view = { λ v. frame_of v.frame.now };
 
-    ghost invariant = { λ v. 14 ≤ length v.frame.now };
+    ghost invariant = { λ v. header_size ≤ length v.frame.now };
 }
 
 impl<'a> EthView<'a> {
@@ -37,7 +37,8 @@ impl<'a> EthView<'a> {
     pub fn read(frame: &'a [u8]) -> Result<EthView<'a>, EthBad>
         ensures read { result ≡ eth_of frame.entry.now }
         // A frame is written as it was read.
-        ensures spelled { IfOk result (λ v. eth_header v.dst v.src v.kind ++ v.payload ≡ frame.entry.now) }
+        ensures spelled { IfOk result (λ v.
+            eth_header v.dst v.src v.kind ++ v.payload ≡ frame.entry.now) }
     {
         if frame.len() < HEADER {
             return Err(EthBad::Short);
@@ -49,14 +50,14 @@ impl<'a> EthView<'a> {
     pub fn dst(&self) -> Mac
         ensures { result ≡ self.now.dst }
     {
-        leading_mac(self.frame)
+        mac_at(self.frame, 0)
     }
 
     /// The station that sent it.
     pub fn src(&self) -> Mac
         ensures { result ≡ self.now.src }
     {
-        leading_mac(&self.frame[6..])
+        mac_at(self.frame, 6)
     }
 
     /// The type field, as 0x0800 for IPv4 and 0x0806 for ARP.
@@ -76,7 +77,7 @@ impl<'a> EthView<'a> {
 
 /// Writes the header of a frame (RFC 894). Its payload is the caller's.
 pub fn write_eth(out: &mut [u8], dst: Mac, src: Mac, kind: u16)
-    requires { length out.old ≡ 14 }
+    requires { length out.old ≡ header_size }
     ensures written { out.new ≡ eth_header dst src kind }
     // What is written is read, whatever payload follows.
     ensures read_back { (payload : List ℕ) → eth_of (out.new ++ payload) ≡ Ok (record {
@@ -87,8 +88,8 @@ pub fn write_eth(out: &mut [u8], dst: Mac, src: Mac, kind: u16)
     }) }
 {
     let (head, rest) = out.split_at_mut(6);
-    head.copy_from_slice(&dst.0);
+    write_mac(head, dst);
     let (middle, last) = rest.split_at_mut(6);
-    middle.copy_from_slice(&src.0);
+    write_mac(middle, src);
     BigEndian::write_u16(last, kind);
 }

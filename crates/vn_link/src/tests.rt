@@ -40,6 +40,7 @@ fn request_is_read_and_written(rt: HostRuntime) -> Result<(), Fail> {
 
 #[test]
 fn refusals(rt: HostRuntime) {
+    law_of_headers();
     law_of_refusal();
     let rows = [
         // octets of the packet, a place in it, what stands there instead, another place, the refusal
