@@ -1,4 +1,3 @@
 pub mod Renewing
 pub mod Headers
 pub mod Flags
-pub mod Spelling

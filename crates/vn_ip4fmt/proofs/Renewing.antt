@@ -4,7 +4,8 @@ use Rattle.std.proofs.lemmas.Bool.{cases_lt}
 use Rattle.std.proofs.lemmas.List.{drop-drop, drop_at, get_or-append_right, get_or-drop, get_or_append_left, get_or-set_other, get_or-take, length-set, length-take-le, places, take_at}
 use Rattle.std.proofs.lemmas.List.Elements.{All-drop, All-take}
 use Rattle.byteorder.specs.Endian.{big_bytes}
-use Rattle.vn_cksum.specs.Sums.{sum_of, AreOctets}
+use Rattle.vn_cksum.specs.Sums.{sum_of}
+use Rattle.vn_types.specs.Fields.{AreOctets}
 use Rattle.vn_cksum.proofs.SumLaws.{completed}
 use Rattle.vn_ip4fmt.specs.Checksum.{with_checksum, renewed}
 

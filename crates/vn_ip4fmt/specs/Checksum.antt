@@ -2,8 +2,9 @@
 use Rattle.std.specs.Prelude.{ℕ, ◌-◌, List, ◌++◌, take, drop, slice_set}
 use Rattle.byteorder.specs.Endian.{big_bytes}
 use Rattle.vn_cksum.specs.Sums.{sum_of, complement}
-use Rattle.vn_ip4fmt.specs.Header.{header_of, header_len}
+use Rattle.vn_types.specs.Ip4Header.{header_of, header_len}
 
+-- a header with that number in the field of its checksum
 abbrev pub with_checksum : ℕ → List ℕ → List ℕ
 with_checksum checksum xs = take 10 xs ++ (big_bytes 2 checksum ++ drop 12 xs)
 
@@ -13,4 +14,6 @@ renewed header = with_checksum (complement (sum_of (with_checksum 0 header))) he
 
 -- a datagram with a TTL that is one less, and its header's checksum anew
 abbrev pub lowered : List ℕ → List ℕ
-lowered xs = renewed (slice_set (take (header_len xs) xs) 8 ((header_of xs).ttl - 1)) ++ drop (header_len xs) xs
+lowered xs =
+    renewed (slice_set (take (header_len xs) xs) 8 ((header_of xs).ttl - 1))
+    ++ drop (header_len xs) xs

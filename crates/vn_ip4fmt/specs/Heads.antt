@@ -1,10 +1,11 @@
 -- The fields that users of a header give and get.
-use Rattle.std.specs.Prelude.{ℕ, ◌==◌, Bool, if◌then◌else◌, List}
-use Rattle.vn_cksum.specs.Fields.{octets_of}
+use Rattle.std.specs.Prelude.{ℕ, ◌==◌, List}
+use Rattle.vn_types.specs.Fields.{bit, spelled}
 use Rattle.vn_cksum.specs.Sums.{sum_of, complement}
 use Rattle.vn_ip4fmt.specs.declared.head.Ip4Head.{Ip4Head}
-use Rattle.vn_ip4fmt.specs.Header.{Header, fields, header_of}
+use Rattle.vn_types.specs.Ip4Header.{Header, ip4_header, header_of}
 
+-- what users get of a header
 abbrev pub head_in : Header → Ip4Head
 head_in h = record {
   tos = h.tos;
@@ -18,11 +19,9 @@ head_in h = record {
   dst = record { 0 = h.dst };
 }
 
+-- what users get of octets
 abbrev pub head_of : List ℕ → Ip4Head
 head_of xs = head_in (header_of xs)
-
-abbrev pub bit : Bool → ℕ
-bit b = if b then 1 else 0
 
 -- the header without options that has these fields, a total length and a checksum
 abbrev pub plain_header : Ip4Head → ℕ → ℕ → Header
@@ -43,8 +42,9 @@ plain_header head total checksum = record {
   dst = head.dst.0;
 }
 
+-- the octets of such a header
 abbrev pub plain_octets : Ip4Head → ℕ → ℕ → List ℕ
-plain_octets head total checksum = octets_of (fields (plain_header head total checksum))
+plain_octets head total checksum = spelled ip4_header (plain_header head total checksum)
 
 -- the checksum of such a header: the complement of the sum of its words, of which the checksum counts as 0
 abbrev pub plain_checksum : Ip4Head → ℕ → ℕ

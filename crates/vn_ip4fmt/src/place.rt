@@ -1,10 +1,10 @@
 ghost use Rattle.std.specs.Prelude.{◌≡◌, ◌<◌, ◌+◌, ◌*◌, ◌/◌, ◌%◌, ◌==◌};
-ghost use Rattle.vn_ip4fmt.specs.Heads.{bit};
+ghost use Rattle.vn_types.specs.Fields.{bit};
 
-// The flags in the word that they share with the offset (RFC 791, section 3.1). The first bit is reserved.
-const DF: u16 = 0x4000;
+// The flags in the octet that they share with the offset (RFC 791, section 3.1). The first bit is reserved.
+const DF: u8 = 0x40;
 
-const MF: u16 = 0x2000;
+const MF: u8 = 0x20;
 
 const OFFSET: u16 = 0x1fff;
 
@@ -15,19 +15,19 @@ pub(crate) fn place(df: bool, mf: bool, offset: u16) -> u16
 {
     let df = if df { DF } else { 0 };
     let mf = if mf { MF } else { 0 };
-    df + mf + offset
+    u16::from(df + mf) * 256 + offset
 }
 
-pub(crate) fn df_of(place: u16) -> bool
-    ensures { result ≡ (place / 16384 % 2 == 1) }
+pub(crate) fn df_of(flags: u8) -> bool
+    ensures { result ≡ (flags / 64 % 2 == 1) }
 {
-    place & DF != 0
+    flags & DF != 0
 }
 
-pub(crate) fn mf_of(place: u16) -> bool
-    ensures { result ≡ (place / 8192 % 2 == 1) }
+pub(crate) fn mf_of(flags: u8) -> bool
+    ensures { result ≡ (flags / 32 % 2 == 1) }
 {
-    place & MF != 0
+    flags & MF != 0
 }
 
 pub(crate) fn offset_of(place: u16) -> u16

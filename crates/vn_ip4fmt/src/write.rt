@@ -1,8 +1,8 @@
 ghost use Rattle.std.specs.Prelude.{◌≡◌, ℕ, ◌<◌, ◌≤◌, ◌+◌, ◌*◌, [], ◌∷◌, ◌++◌, List, length, take};
-ghost use Rattle.vn_cksum.specs.Fields.{FitWidths, octets_of};
+ghost use Rattle.vn_types.specs.Fields.{FitWidths, bit, octets_of};
 ghost use Rattle.vn_cksum.specs.Sums.{sum_of};
-ghost use Rattle.vn_ip4fmt.specs.Header.{fields, header_of, header_len};
-ghost use Rattle.vn_ip4fmt.specs.Heads.{bit, head_of, plain_header, plain_octets, plain_checksum};
+ghost use Rattle.vn_types.specs.Ip4Header.{fields, header_of, header_len, header_size};
+ghost use Rattle.vn_ip4fmt.specs.Heads.{head_of, plain_header, plain_octets, plain_checksum};
 ghost use Rattle.vn_ip4fmt.specs.Datagram.{IsDatagram};
 
 use crate::checksum::renew_checksum;
@@ -13,15 +13,17 @@ use vn_types::Ip4;
 
 /// Writes a header without options, with its checksum.
 pub fn write_header(out: &mut [u8], head: &Ip4Head, total: u16)
-    requires room { length out.old ≡ 20 }
-    requires total { 20 ≤ total }
+    requires room { length out.old ≡ header_size }
+    requires total { header_size ≤ total }
     requires offset { head.now.offset < 8192 }
     ensures written { out.new ≡ plain_octets head.now total (plain_checksum head.now total) }
     ensures sums_up { sum_of out.new ≡ 65535 }
-    // With a body of the length that was told, it is a datagram, and is read as it was given, whatever stands behind.
-    ensures reads { (body rest : List ℕ) → 20 + length body ≡ total → IsDatagram (out.new ++ (body ++ rest)) }
-    ensures parts { (body rest : List ℕ) → 20 + length body ≡ total
-        → (header_len (out.new ++ (body ++ rest)) ≡ 20)
+    // With a body of the length that was told, it is a datagram, and is read as it was given, whatever
+    // stands behind.
+    ensures grammar { (body rest : List ℕ) → header_size + length body ≡ total
+        → IsDatagram (out.new ++ (body ++ rest)) }
+    ensures parts { (body rest : List ℕ) → header_size + length body ≡ total
+        → (header_len (out.new ++ (body ++ rest)) ≡ header_size)
         × ((header_of (out.new ++ (body ++ rest))).total ≡ total)
         × (take total (out.new ++ (body ++ rest)) ≡ out.new ++ body) }
     ensures read_back { (body : List ℕ) → head_of (out.new ++ body) ≡ head.now }
@@ -32,10 +34,11 @@ pub fn write_header(out: &mut [u8], head: &Ip4Head, total: u16)
 
 // A header whose checksum is 0 yet, in rows of four octets.
 fn write_fields(out: &mut [u8], head: Ip4Head, total: u16)
-    requires room { length out.old ≡ 20 }
+    requires room { length out.old ≡ header_size }
     requires offset { head.offset < 8192 }
     ensures written { out.new ≡ plain_octets head total 0 }
-    ensures fit { FitWidths (fields (plain_header head total 0)) }
+    ensures fit { (checksum : ℕ) → checksum < 65536
+        → FitWidths (fields (plain_header head total checksum)) }
 {
     let (row, rest) = out.split_at_mut(4);
     write_row(row, 0x45, head.tos, total);
@@ -60,7 +63,8 @@ fn write_row(row: &mut [u8], first: u8, second: u8, word: u16)
 fn write_place(row: &mut [u8], id: u16, df: bool, mf: bool, offset: u16)
     requires row { length row.old ≡ 4 }
     requires offset { offset < 8192 }
-    ensures { row.new ≡ octets_of ((16, id) ∷ (1, 0) ∷ (1, bit df) ∷ (1, bit mf) ∷ (13, offset) ∷ []) }
+    ensures { row.new
+        ≡ octets_of ((16, id) ∷ (1, 0) ∷ (1, bit df) ∷ (1, bit mf) ∷ (13, offset) ∷ []) }
 {
     let (first, second) = row.split_at_mut(2);
     BigEndian::write_u16(first, id);

@@ -1,6 +1,6 @@
 use Rattle.std.proofs.Common.{◌≡◌, ap, ◌∙◌}
 use Rattle.vn_cksum.specs.Sums.{sum_of}
-use Rattle.vn_cksum.proofs.Totals.{octets-slice}
+use Rattle.vn_types.proofs.OctetNumbers.{octets-slice}
 use Rattle.vn_ip4fmt.specs.Checksum.{renewed}
 use Rattle.vn_ip4fmt.proofs.Renewing.{octets-round, renewed-sum, written-twice}
 use Rattle.vn_ip4fmt.proofs.checksum.renew_checksum.Goals as goal
