@@ -3,7 +3,8 @@ use Rattle.std.proofs.Common.{◌≡◌, ℕ, ◌+◌, ◌%◌, ◌<◌, ◌≤�
 use Rattle.std.proofs.lemmas.List.{take-append-drop, length-take-le}
 use Rattle.std.proofs.lemmas.List.Elements.{All-append, All-take, All-drop, All-nil}
 use Rattle.byteorder.specs.Endian.{big_bytes}
-use Rattle.vn_cksum.specs.Sums.{sum_words, words_of, sum_of, AreOctets}
+use Rattle.vn_cksum.specs.Sums.{sum_words, words_of, sum_of}
+use Rattle.vn_types.specs.Fields.{AreOctets}
 use Rattle.vn_cksum.proofs.SumLaws.{octets-word, stands_for}
 
 sum_of-nil : sum_of [] ≡ 0

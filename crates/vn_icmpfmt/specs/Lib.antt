@@ -1,4 +1,3 @@
 pub mod Messages
 pub mod Grammar
 pub mod Quotes
-pub mod Laws

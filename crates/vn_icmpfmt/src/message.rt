@@ -20,27 +20,27 @@ pub struct IcmpView<'a> {
 
 impl<'a> Model for IcmpView<'a> {
     ghost use Rattle.std.specs.Prelude.{◌≤◌, length};
-    ghost use Rattle.vn_icmpfmt.specs.Messages.{Message, message_of};
+    ghost use Rattle.vn_icmpfmt.specs.Messages.{Message, header_size, message_of};
 
     ghost Value = { Message };
 
     ghost view = { λ v. message_of v.body.now };
 
-    ghost invariant = { λ v. 8 ≤ length v.body.now };
+    ghost invariant = { λ v. header_size ≤ length v.body.now };
 }
 
 impl<'a> IcmpView<'a> {
     ghost use Rattle.std.specs.Prelude.{◌≡◌, IfOk};
-    ghost use Rattle.vn_cksum.specs.Fields.{number_at};
     ghost use Rattle.vn_icmpfmt.specs.Grammar.{IsMessage, icmp_of};
-    ghost use Rattle.vn_icmpfmt.specs.Messages.{message_with};
+    ghost use Rattle.vn_icmpfmt.specs.Messages.{header_of, message_with};
 
     /// The message that octets spell.
     pub fn read(body: &'a [u8]) -> Result<IcmpView<'a>, IcmpBad>
         ensures read { result ≡ icmp_of body.entry.now }
         ensures grammar { IfOk result (λ v. IsMessage body.entry.now) }
         // A message is written as it was read.
-        ensures spelled { IfOk result (λ v. message_with v (number_at 2 2 body.entry.now) ≡ body.entry.now) }
+        ensures spelled { IfOk result (λ v.
+            message_with v (header_of body.entry.now).checksum ≡ body.entry.now) }
     {
         if body.len() < HEADER {
             return Err(IcmpBad::Short);

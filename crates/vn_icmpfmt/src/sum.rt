@@ -27,7 +27,8 @@ pub fn sum16_long(octets: &[u8]) -> u16
 pub fn put_checksum(message: &mut [u8])
     requires { 4 ≤ length message.old }
     ensures { message.new
-        ≡ take 2 message.old ++ (big_bytes 2 (complement (sum_of message.old)) ++ drop 4 message.old) }
+        ≡ take 2 message.old
+        ++ (big_bytes 2 (complement (sum_of message.old)) ++ drop 4 message.old) }
 {
     let checksum = !sum16_long(message);
     let (_, rest) = message.split_at_mut(2);

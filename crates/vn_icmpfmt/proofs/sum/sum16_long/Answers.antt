@@ -1,8 +1,9 @@
 use Rattle.std.proofs.Common.{◌≡◌, ◌<◌, ◌++◌, List, ℕ, take, drop, refl, sym, ap, ◌∙◌, subst, arith}
 use Rattle.std.proofs.lemmas.List.Elements.{All-drop}
 use Rattle.byteorder.specs.Endian.{big_bytes}
-use Rattle.vn_cksum.specs.Sums.{sum_of, AreOctets}
-use Rattle.vn_cksum.proofs.Totals.{octets-slice}
+use Rattle.vn_cksum.specs.Sums.{sum_of}
+use Rattle.vn_types.specs.Fields.{AreOctets}
+use Rattle.vn_types.proofs.OctetNumbers.{octets-slice}
 use Rattle.vn_icmpfmt.proofs.Pieces.{none_before, piece_summed}
 use Rattle.vn_icmpfmt.proofs.sum.sum16_long.Goals as goal
 

@@ -1,6 +1,7 @@
 use Rattle.std.proofs.Common.{◌≡◌, ◌++◌, length}
 use Rattle.byteorder.specs.Endian.{big_bytes}
-use Rattle.vn_cksum.specs.Sums.{sum_of, AreOctets}
+use Rattle.vn_cksum.specs.Sums.{sum_of}
+use Rattle.vn_types.specs.Fields.{AreOctets}
 use Rattle.vn_icmpfmt.proofs.sum.sum16_long.Given as goal
 
 abbrev pub invariant-loop-rest : goal.invariant-loop-rest
