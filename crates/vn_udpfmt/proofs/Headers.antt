@@ -1,32 +1,22 @@
 -- Headers as octets, and read back.
-use Rattle.std.proofs.Common.{◌≡◌, ◌≢◌, ◌⊎◌, ◌==◌, ◌||◌, true, ℕ, ◌+◌, ◌*◌, ◌/◌, ◌%◌, ◌^◌, ◌<◌, ◌≤◌, List, ◌++◌, length, take, length-append, refl, sym, ap, ◌∙◌, arith, lit<}
+use Rattle.std.proofs.Common.{◌≡◌, ◌≢◌, ◌⊎◌, ◌==◌, ◌||◌, true, ℕ, ◌+◌, ◌<◌, ◌≤◌, List, ◌++◌, length, take, length-append, refl, sym, ap, ◌∙◌, arith}
 use Rattle.std.proofs.lemmas.List.{take_at}
-use Rattle.std.proofs.lemmas.List.Elements.{All-from_recursion}
-use Rattle.vn_cksum.specs.Fields.{FitWidths}
+use Rattle.vn_types.specs.Fields.{FitWidths}
+use Rattle.vn_types.proofs.FieldLaws.{IsFormat, reads-back}
 use Rattle.vn_types.specs.declared.address.Ip4.{Ip4}
 use Rattle.vn_udpfmt.specs.Datagram.{IsDatagram, whole}
-use Rattle.vn_udpfmt.specs.Header.{Header, fields, header_of}
-use Rattle.vn_udpfmt.specs.Laws.{ReadsBack}
+use Rattle.vn_udpfmt.specs.Header.{Header, fields, udp_header, header_of}
 use Rattle.vn_udpfmt.specs.Pseudo.{sum_behind_pseudo}
 use Rattle.vn_udpfmt.specs.Written.{header_for, datagram_for}
 
-two-back : (n : ℕ) → n < 65536 → (0 + n) / 256 % 256 * 256 + ((0 + n) % 256 * 1 + 0) ≡ n
-two-back n h = omega arith
-
-pub reads-back : ReadsBack
-reads-back h rest fit =
-    rw (
-      two-back h.sport (fit 0 (0, 0) (lit< tt)),
-      two-back h.dport (fit 1 (0, 0) (lit< tt)),
-      two-back h.len (fit 2 (0, 0) (lit< tt)),
-      two-back h.checksum (fit 3 (0, 0) (lit< tt)),
-    ) refl
+pub is_format : IsFormat udp_header
+is_format = record { whole = refl; same_widths = λ value. refl; same_value = λ value. refl; same_values = λ xs. refl }
 
 pub fit-for : (sport dport checksum : ℕ) (octets : List ℕ) → sport < 65536 → dport < 65536 → length octets ≤ 65527 → checksum < 65536
     → FitWidths (fields (header_for sport dport octets checksum))
 fit-for sport dport checksum octets has_sport has_dport size has_checksum =
     let len : 8 + length octets < 65536 = omega arith in
-    All-from_recursion (λ field. field.1 < 2 ^ field.0) (fields (header_for sport dport octets checksum)) (has_sport, (has_dport, (len, (has_checksum, tt))))
+    (has_sport, (has_dport, (len, (has_checksum, tt))))
 
 -- a datagram that is written is whole, whatever stands behind it
 pub whole-for : (sport dport checksum : ℕ) (octets rest : List ℕ) → FitWidths (fields (header_for sport dport octets checksum))
@@ -34,7 +24,7 @@ pub whole-for : (sport dport checksum : ℕ) (octets rest : List ℕ) → FitWid
 whole-for sport dport checksum octets rest fit =
     let datagram : List ℕ = datagram_for sport dport octets checksum in
     let told : (header_of (datagram ++ rest)).len ≡ 8 + length octets =
-    ap (λ (h : Header). h.len) (reads-back (header_for sport dport octets checksum) (octets ++ rest) fit) in
+    ap (λ (h : Header). h.len) (reads-back udp_header is_format (header_for sport dport octets checksum) (octets ++ rest) fit) in
     let len : length datagram ≡ 8 + length octets = omega arith in
     ap (λ n. take n (datagram ++ rest)) told ∙ take_at datagram rest (8 + length octets) len
 
@@ -43,7 +33,7 @@ pub datagram-for : (src dst : Ip4) (sport dport checksum : ℕ) (octets rest : L
     → IsDatagram src dst (datagram_for sport dport octets checksum ++ rest)
 datagram-for src dst sport dport checksum octets rest fit port sums =
     let datagram : List ℕ = datagram_for sport dport octets checksum in
-    let is : header_of (datagram ++ rest) ≡ header_for sport dport octets checksum = reads-back (header_for sport dport octets checksum) (octets ++ rest) fit in
+    let is : header_of (datagram ++ rest) ≡ header_for sport dport octets checksum = reads-back udp_header is_format (header_for sport dport octets checksum) (octets ++ rest) fit in
     let told : (header_of (datagram ++ rest)).len ≡ 8 + length octets = ap (λ (h : Header). h.len) is in
     let all : length (datagram ++ rest) ≡ length datagram + length rest = length-append datagram rest in
     let len : length datagram ≡ 8 + length octets = omega arith in

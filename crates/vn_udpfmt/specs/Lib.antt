@@ -2,4 +2,3 @@ pub mod Header
 pub mod Pseudo
 pub mod Datagram
 pub mod Written
-pub mod Laws

@@ -1,6 +1,6 @@
 -- The pseudo header that a UDP checksum covers (RFC 768).
 use Rattle.std.specs.Prelude.{ℕ, List, [], ◌∷◌, ◌++◌, length}
-use Rattle.vn_cksum.specs.Fields.{octets_of}
+use Rattle.vn_types.specs.Fields.{octets_of}
 use Rattle.vn_cksum.specs.Sums.{sum_of}
 use Rattle.vn_types.specs.declared.address.Ip4.{Ip4}
 

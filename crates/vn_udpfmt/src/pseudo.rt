@@ -1,5 +1,5 @@
 ghost use Rattle.std.specs.Prelude.{◌≡◌, ◌<◌, ◌^◌, length, [], ◌∷◌};
-ghost use Rattle.vn_cksum.specs.Fields.{octets_of};
+ghost use Rattle.vn_types.specs.Fields.{octets_of};
 ghost use Rattle.vn_udpfmt.specs.Pseudo.{pseudo_fields, sum_behind_pseudo};
 
 use byteorder::{BigEndian, ByteOrder};

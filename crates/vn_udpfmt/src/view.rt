@@ -1,5 +1,5 @@
 ghost use Rattle.std.specs.Prelude.{◌≡◌, ◌<◌, ◌≤◌, ◌+◌, ◌^◌, ◌==◌, ◌||◌, length};
-ghost use Rattle.vn_cksum.specs.Fields.{number_at};
+ghost use Rattle.byteorder.specs.Endian.{big_from};
 ghost use Rattle.vn_udpfmt.specs.Pseudo.{sum_behind_pseudo as sum_of_all};
 
 use crate::bad::UdpBad;
@@ -7,6 +7,9 @@ use crate::pseudo::sum_behind_pseudo;
 use byteorder::{BigEndian, ByteOrder};
 use std::marker::Model;
 use vn_types::Ip4;
+
+// The octets of a header.
+const HEADER: usize = 8;
 
 /// A UDP datagram in octets that are borrowed. Octets behind its length may stand there too.
 #[derive(Drop)]
@@ -16,31 +19,33 @@ pub struct UdpView<'a> {
 
 impl<'a> Model for UdpView<'a> {
     ghost use Rattle.std.specs.Prelude.{ℕ, List, ◌≤◌, length};
-    ghost use Rattle.vn_udpfmt.specs.Header.{header_of};
+    ghost use Rattle.vn_udpfmt.specs.Header.{header_size, header_of};
 
     ghost Value = { List ℕ };
 
     ghost view = { λ v. v.octets.now };
 
-    ghost invariant = { λ v. (8 ≤ (header_of v.octets.now).len) × ((header_of v.octets.now).len ≤ length v.octets.now) };
+    ghost invariant = { λ v.
+        (header_size ≤ (header_of v.octets.now).len)
+        × ((header_of v.octets.now).len ≤ length v.octets.now) };
 }
 
 impl<'a> UdpView<'a> {
-    ghost use Rattle.std.specs.Prelude.{◌≡◌, drop, Some, None, IfOk, MatchResult};
-    ghost use Rattle.vn_udpfmt.specs.Header.{header_of};
-    ghost use Rattle.vn_udpfmt.specs.Datagram.{IsDatagram, refusal, whole};
+    ghost use Rattle.std.specs.Prelude.{◌≡◌, drop, IfOk};
+    ghost use Rattle.vn_udpfmt.specs.Header.{header_size, header_of};
+    ghost use Rattle.vn_udpfmt.specs.Datagram.{IsDatagram, udp_of, whole};
 
     /// The datagram at the head of the octets, which came from `src` to `dst`.
     pub fn read(body: &'a [u8], src: Ip4, dst: Ip4) -> Result<UdpView<'a>, UdpBad>
         ensures view { IfOk result (λ v. v ≡ body.entry.now) }
-        ensures grammar { IfOk result (λ v. IsDatagram src dst body.entry.now) }
-        ensures refusal { MatchResult result (λ v. refusal src dst body.entry.now ≡ None) (λ bad. refusal src dst body.entry.now ≡ Some bad) }
+        ensures read { result ≡ udp_of src dst body.entry.now }
+        ensures grammar { IfOk result (λ v. IsDatagram src dst v) }
     {
-        if body.len() < 8 {
+        if body.len() < HEADER {
             return Err(UdpBad::Short);
         }
         let len = usize::from(word_at(body, 4));
-        if len < 8 || body.len() < len {
+        if len < HEADER || body.len() < len {
             return Err(UdpBad::Length);
         }
         let checksum = word_at(body, 6);
@@ -69,12 +74,12 @@ impl<'a> UdpView<'a> {
 
     /// What stands between the header and the end that the length tells.
     pub fn payload(&self) -> &'a [u8]
-        ensures { result.now ≡ drop 8 (whole self.now) }
+        ensures { result.now ≡ drop header_size (whole self.now) }
     {
         let octets = self.octets;
         let len = usize::from(word_at(octets, 4));
         let datagram = &octets[..len];
-        &datagram[8..]
+        &datagram[HEADER..]
     }
 }
 
@@ -88,7 +93,7 @@ fn sums_up(checksum: u16, src: Ip4, dst: Ip4, datagram: &[u8]) -> bool
 
 fn word_at(octets: &[u8], place: usize) -> u16
     requires { place + 2 ≤ length octets.now }
-    ensures { result ≡ number_at place 2 octets.now }
+    ensures { result ≡ big_from place 2 octets.now }
 {
     BigEndian::read_u16(&octets[place..])
 }

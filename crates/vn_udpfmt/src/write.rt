@@ -1,7 +1,7 @@
-ghost use Rattle.std.specs.Prelude.{◌≡◌, ◌≢◌, ℕ, ◌≤◌, ◌+◌, ◌++◌, [], ◌∷◌, List, length, take, drop, true};
+ghost use Rattle.std.specs.Prelude.{◌≡◌, ◌≢◌, ℕ, ◌≤◌, ◌+◌, ◌-◌, ◌++◌, [], ◌∷◌, List, length, take, drop, true};
 ghost use Rattle.byteorder.specs.Endian.{big_bytes};
-ghost use Rattle.vn_cksum.specs.Fields.{octets_of};
-ghost use Rattle.vn_udpfmt.specs.Header.{fields, header_of};
+ghost use Rattle.vn_types.specs.Fields.{octets_of};
+ghost use Rattle.vn_udpfmt.specs.Header.{header_size, header_of};
 ghost use Rattle.vn_udpfmt.specs.Pseudo.{sum_behind_pseudo as sum_of_all};
 ghost use Rattle.vn_udpfmt.specs.Datagram.{IsDatagram, whole};
 ghost use Rattle.vn_udpfmt.specs.Written.{header_for, datagram_for, sent_for, checksum_for};
@@ -20,15 +20,17 @@ pub fn write_udp(
     octets: &[u8],
     sum: bool,
 )
-    requires room { length out.old ≡ 8 + length octets.now }
-    requires size { length octets.now ≤ 65527 }
+    requires room { length out.old ≡ header_size + length octets.now }
+    requires size { length octets.now ≤ 65535 - header_size }
     requires port { dport ≢ 0 }
-    ensures written { out.new ≡ datagram_for sport dport octets.now (checksum_for src dst sport dport octets.now sum) }
+    ensures written { out.new
+        ≡ datagram_for sport dport octets.now (checksum_for src dst sport dport octets.now sum) }
     // It is read as it was given, whatever stands behind it.
-    ensures reads { (rest : List ℕ) → IsDatagram src dst (out.new ++ rest) }
-    ensures read_back { (rest : List ℕ) → header_of (out.new ++ rest) ≡ header_for sport dport octets.now (checksum_for src dst sport dport octets.now sum) }
-    ensures payload { (rest : List ℕ) → drop 8 (whole (out.new ++ rest)) ≡ octets.now }
-    ensures summed { sum ≡ true → sum_of_all src dst out.new ≡ 65535 }
+    ensures grammar { (rest : List ℕ) → IsDatagram src dst (out.new ++ rest) }
+    ensures read_back { (rest : List ℕ) → header_of (out.new ++ rest)
+        ≡ header_for sport dport octets.now (checksum_for src dst sport dport octets.now sum) }
+    ensures payload { (rest : List ℕ) → drop header_size (whole (out.new ++ rest)) ≡ octets.now }
+    ensures sums_up { sum ≡ true → sum_of_all src dst out.new ≡ 65535 }
     ensures told { sum ≡ true → (header_of out.new).checksum ≢ 0 }
 {
     write_datagram(out, sport, dport, octets);
@@ -39,7 +41,7 @@ pub fn write_udp(
 }
 
 fn put_checksum(out: &mut [u8], checksum: u16)
-    requires { 8 ≤ length out.old }
+    requires { header_size ≤ length out.old }
     ensures { out.new ≡ take 6 out.old ++ (big_bytes 2 checksum ++ drop 8 out.old) }
 {
     let (_, field) = out.split_at_mut(6);
@@ -55,8 +57,8 @@ fn sent_for(sum: u16) -> u16
 
 // A datagram whose checksum is 0 yet.
 fn write_datagram(out: &mut [u8], sport: u16, dport: u16, octets: &[u8])
-    requires room { length out.old ≡ 8 + length octets.now }
-    requires size { length octets.now ≤ 65527 }
+    requires room { length out.old ≡ header_size + length octets.now }
+    requires size { length octets.now ≤ 65535 - header_size }
     ensures { out.new ≡ datagram_for sport dport octets.now 0 }
 {
     let len = out.len() as u16;
@@ -66,7 +68,7 @@ fn write_datagram(out: &mut [u8], sport: u16, dport: u16, octets: &[u8])
 }
 
 fn write_header(out: &mut [u8], sport: u16, dport: u16, len: u16)
-    requires { length out.old ≡ 8 }
+    requires { length out.old ≡ header_size }
     ensures { out.new ≡ octets_of ((16, sport) ∷ (16, dport) ∷ (16, len) ∷ (16, 0) ∷ []) }
 {
     let (ports, rest) = out.split_at_mut(4);
