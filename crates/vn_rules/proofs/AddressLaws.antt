@@ -1,5 +1,5 @@
 -- Addresses under other names of halves: what is added, found and removed goes through a renaming.
-use Rattle.std.proofs.Common.{◌≡◌, ℕ, Bool, ◌&&◌, ◌||◌, ◌==◌, not, cond, List, [], ◌∷◌, map, Option, Some, None, refl, sym, ap, ap₂, ◌∙◌}
+use Rattle.std.proofs.Common.{◌≡◌, ℕ, Bool, ◌&&◌, ◌||◌, ◌==◌, not, List, [], ◌∷◌, map, Option, Some, None, refl, sym, ap, ap₂, ◌∙◌}
 use Rattle.std.specs.List.{find}
 use Rattle.std.specs.Result.{result_map_both}
 use Rattle.std.specs.Option.{option_map, ok_or}
@@ -10,12 +10,13 @@ use Rattle.vn_types.specs.declared.errno.Errno.TheVariants.{Inval, Exist, AddrNo
 use Rattle.vn_types.specs.declared.interface.IfOf.{IfOf}
 use Rattle.vn_types.specs.declared.interface.IfOf.TheVariants.{Lo0, Half}
 use Rattle.vn_types.specs.Interfaces.{if_same, as_if}
+use Rattle.vn_types.specs.Refusals.{first_refusal}
+use Rattle.vn_types.proofs.InterfaceNames.{if_same-as_if}
 use Rattle.vn_types.proofs.ListMaps.{filter_map_same, any_map_same, find_map_same}
 use Rattle.vn_rules.specs.declared.address.AddrOf.{AddrOf}
 use Rattle.vn_rules.specs.Networks.{directed_broadcast, is_no_host, is_loopback, lies_in}
 use Rattle.vn_rules.specs.Renamed.{as_addr}
 use Rattle.vn_rules.specs.Addresses.{is_half, prefix_of, has_broadcast, is_end, is_unfit, has_ip, local, add_refusal, after_add, is_broadcast_of, broadcast, address_at, is_at, on_interface, address_of, is_same, without_address, remove_answer, after_remove, after_purge, reaches, source_for, first}
-use Rattle.vn_rules.proofs.Renaming.{if_same-renamed}
 
 module _ {N M : Type 0} (r : N → M) where
   is_half-renamed : (on : IfOf N) → is_half (as_if r on) ≡ is_half on
@@ -29,7 +30,7 @@ module _ {N M : Type 0} (r : N → M) where
   local-renamed ip xs = any_map_same (as_addr r) (has_ip ip) (has_ip ip) (λ a. refl) xs
 
   pub add_refusal-renamed : (a : AddrOf N) (xs : List (AddrOf N)) → add_refusal (as_addr r a) (map (as_addr r) xs) ≡ add_refusal a xs
-  add_refusal-renamed a xs = ap₂ (λ unfit stands. cond unfit (Some Inval) (cond stands (Some Exist) None)) (is_unfit-renamed a) (local-renamed a.ip xs)
+  add_refusal-renamed a xs = ap₂ (λ unfit stands. first_refusal ((unfit, Inval) ∷ (stands, Exist) ∷ [])) (is_unfit-renamed a) (local-renamed a.ip xs)
 
   pub after_add-renamed : (a : AddrOf N) (xs : List (AddrOf N)) → after_add (as_addr r a) (map (as_addr r) xs) ≡ map (as_addr r) (after_add a xs)
   after_add-renamed a xs = sym (map-append (as_addr r) xs (a ∷ []))
@@ -49,7 +50,7 @@ module _ {N M : Type 0} (r : N → M) where
 
 module _ {N M : Type 0} (r : N → M) (at_n : N → N → Bool) (at_m : M → M → Bool) (faithful : (a b : N) → at_m (r a) (r b) ≡ at_n a b) where
   is_on-renamed : (on : IfOf N) (a : AddrOf N) → if_same at_m (as_if r a.on) (as_if r on) ≡ if_same at_n a.on on
-  is_on-renamed on a = if_same-renamed r at_n at_m faithful a.on on
+  is_on-renamed on a = if_same-as_if r at_n at_m faithful a.on on
 
   is_at-renamed : (on : IfOf N) (ip : Ip4) (a : AddrOf N) → is_at at_m (as_if r on) ip (as_addr r a) ≡ is_at at_n on ip a
   is_at-renamed on ip a = ap (λ b. b && has_ip ip a) (is_on-renamed on a)

@@ -3,3 +3,7 @@ pub mod NetworkLaws
 pub mod TimerOrder
 pub mod TimerLaws
 pub mod AddressLaws
+pub mod SceneLaws
+pub mod OrderLaws
+pub mod Constructed
+pub mod SoundRenamed

@@ -2,11 +2,12 @@
 use Rattle.std.proofs.Common.{◌≡◌, Bool, ◌||◌, List, [], ◌∷◌, ◌++◌, map, refl, sym, ap, ap₂, ◌∙◌}
 use Rattle.std.specs.List.{flat_map}
 use Rattle.std.proofs.lemmas.List.{map-append}
+use Rattle.std.proofs.lemmas.Simd.{map-map}
 use Rattle.vn_types.specs.declared.interface.IfOf.{IfOf}
 use Rattle.vn_types.specs.declared.interface.IfOf.TheVariants.{Lo0, Half}
-use Rattle.vn_types.specs.Interfaces.{if_same, as_if}
+use Rattle.vn_types.specs.Interfaces.{as_if}
+use Rattle.vn_types.proofs.InterfaceNames.{if_same-as_if}
 use Rattle.vn_rules.specs.declared.address.AddrOf.{AddrOf}
-use Rattle.vn_rules.specs.declared.route.RouteOf.{RouteOf}
 use Rattle.vn_rules.specs.declared.route.TargetOf.{TargetOf}
 use Rattle.vn_rules.specs.declared.route.TargetOf.TheVariants.{Link, Gateway}
 use Rattle.vn_rules.specs.declared.arp.ArpEntryOf.{ArpEntryOf}
@@ -16,20 +17,19 @@ use Rattle.vn_rules.specs.declared.socket.SocketOf.{SocketOf}
 use Rattle.vn_rules.specs.declared.timer.TimerOf.{TimerOf}
 use Rattle.vn_rules.specs.declared.timer.TimerOf.TheVariants.{Arp, Ping}
 use Rattle.vn_rules.specs.declared.parts.PartsOf.{PartsOf}
-use Rattle.vn_rules.specs.Interfaces.{target_if, route_if, queue_ifs, named_ifs, is_among, is_timer_of}
+use Rattle.vn_rules.specs.Routes.{Routed}
+use Rattle.vn_rules.specs.Interfaces.{target_if, queue_ifs, named_ifs, is_among, is_timer_of}
 use Rattle.vn_rules.specs.Construction.{constructed_parts}
-use Rattle.vn_rules.specs.Renamed.{as_addr, as_target, as_route, as_arp, as_ping, as_gram, as_socket, as_timer, as_timed, renamed}
+use Rattle.vn_rules.specs.Renamed.{as_addr, as_target, as_routed, as_arp, as_ping, as_gram, as_socket, as_timer, as_timed, renamed}
 
 -- two ways round a square of functions
 module _ {A B C D : Type 0} (f : A → B) (p : A → C) (q : B → D) (h : C → D) (same : (x : A) → q (f x) ≡ h (p x)) where
   map_square : (xs : List A) → map q (map f xs) ≡ map h (map p xs)
-  map_square [] = refl
-  map_square (x ∷ xs) = ap₂ (λ y ys. y ∷ ys) (same x) (map_square xs)
+  map_square xs = map-map q f xs ∙ (λ i. map (λ x. same x i) xs) ∙ sym (map-map h p xs)
 
 module _ {A B C : Type 0} (f : A → B) (g : B → C) (h : A → C) (same : (x : A) → g (f x) ≡ h x) where
   map_twice : (xs : List A) → map g (map f xs) ≡ map h xs
-  map_twice [] = refl
-  map_twice (x ∷ xs) = ap₂ (λ y ys. y ∷ ys) (same x) (map_twice xs)
+  map_twice xs = map-map g f xs ∙ (λ i. map (λ x. same x i) xs)
 
 -- ---- what the renamed parts name
 
@@ -49,7 +49,7 @@ module _ {N M : Type 0} (r : N → M) where
   named_ifs-renamed p =
       joined _ _ (joined _ _ (joined _ _ (joined _ _
       (map_square (as_addr r) (λ (a : AddrOf N). a.on) (λ (a : AddrOf M). a.on) (as_if r) (λ a. refl) p.addresses)
-      (map_square (as_route r) route_if route_if (as_if r) (λ t. target_if-renamed t.target) p.routes))
+      (map_square (as_routed r) (λ (e : Routed N). target_if e.1) (λ (e : Routed M). target_if e.1) (as_if r) (λ e. target_if-renamed e.1) p.routes))
       (map_square (as_arp r) (λ (e : ArpEntryOf N). Half e.half) (λ (e : ArpEntryOf M). Half e.half) (as_if r) (λ e. refl) p.arp))
       (map_square (as_ping r) (λ (g : PingOf N). g.out) (λ (g : PingOf M). g.out) (as_if r) (λ g. refl) p.pings.awaited))
       (queues-renamed p.sockets)
@@ -60,15 +60,9 @@ module _ {N M : Type 0} (r : N → M) where
 -- ---- tests on names
 
 module _ {N M : Type 0} (r : N → M) (at_n : N → N → Bool) (at_m : M → M → Bool) (faithful : (a b : N) → at_m (r a) (r b) ≡ at_n a b) where
-  pub if_same-renamed : (a b : IfOf N) → if_same at_m (as_if r a) (as_if r b) ≡ if_same at_n a b
-  if_same-renamed Lo0 Lo0 = refl
-  if_same-renamed Lo0 (Half h) = refl
-  if_same-renamed (Half g) Lo0 = refl
-  if_same-renamed (Half g) (Half h) = faithful g h
-
   pub is_among-renamed : (ifs : List (IfOf N)) (on : IfOf N) → is_among at_m (map (as_if r) ifs) (as_if r on) ≡ is_among at_n ifs on
   is_among-renamed [] on = refl
-  is_among-renamed (i ∷ ifs) on = ap₂ (λ a b. a || b) (if_same-renamed on i) (is_among-renamed ifs on)
+  is_among-renamed (i ∷ ifs) on = ap₂ (λ a b. a || b) (if_same-as_if r at_n at_m faithful on i) (is_among-renamed ifs on)
 
   pub is_timer_of-renamed : (half : N) (t : TimerOf N) → is_timer_of at_m (r half) (as_timer r t) ≡ is_timer_of at_n half t
   is_timer_of-renamed half (Arp own ip) = faithful own half
@@ -87,8 +81,8 @@ module _ {N M L : Type 0} (r : N → M) (s : M → L) where
   as_addr-twice : (a : AddrOf N) → as_addr s (as_addr r a) ≡ as_addr both a
   as_addr-twice a i = record { on = as_if-twice a.on i; ip = a.ip; len = a.len }
 
-  as_route-twice : (t : RouteOf N) → as_route s (as_route r t) ≡ as_route both t
-  as_route-twice t i = record { to = t.to; target = by t.target i }
+  as_routed-twice : (e : Routed N) → as_routed s (as_routed r e) ≡ as_routed both e
+  as_routed-twice e i = (e.0, by e.1 i)
     where
       by : (t : TargetOf N) → as_target s (as_target r t) ≡ as_target both t
       by (Link on) = ap Link (as_if-twice on)
@@ -98,13 +92,7 @@ module _ {N M L : Type 0} (r : N → M) (s : M → L) where
   as_ping-twice p i = record { id = p.id; src = p.src; dst = p.dst; out = as_if-twice p.out i; arm = p.arm }
 
   as_socket-twice : (k : SocketOf N) → as_socket s (as_socket r k) ≡ as_socket both k
-  as_socket-twice k i = record {
-    name = k.name;
-    ip = k.ip;
-    port = k.port;
-    peer = k.peer;
-    ttl = k.ttl;
-    refused = k.refused;
+  as_socket-twice k i = record (as_socket both k) {
     queue = map_twice (as_gram r) (as_gram s) (as_gram both) (λ g j. record { src = g.src; sport = g.sport; octets = g.octets; via = as_if-twice g.via j }) k.queue i;
   }
 
@@ -118,7 +106,7 @@ module _ {N M L : Type 0} (r : N → M) (s : M → L) where
     variables = p.variables;
     interfaces = map_twice (as_if r) (as_if s) (as_if both) as_if-twice p.interfaces i;
     addresses = map_twice (as_addr r) (as_addr s) (as_addr both) as_addr-twice p.addresses i;
-    routes = map_twice (as_route r) (as_route s) (as_route both) as_route-twice p.routes i;
+    routes = map_twice (as_routed r) (as_routed s) (as_routed both) as_routed-twice p.routes i;
     arp = map_twice (as_arp r) (as_arp s) (as_arp both) (λ e. refl) p.arp i;
     sockets = map_twice (as_socket r) (as_socket s) (as_socket both) as_socket-twice p.sockets i;
     timers = record { armed = p.timers.armed; standing = map_twice (as_timed r) (as_timed s) (as_timed both) (λ e j. (e.0, as_timer-twice e.1 j)) p.timers.standing i };

@@ -1,5 +1,5 @@
 -- The addresses of a stack's interfaces, in order of adding (ifconfig(8)).
-use Rattle.std.specs.Prelude.{ℕ, Bool, true, false, ◌==◌, ◌&&◌, ◌||◌, nat_le, not, List, [], ◌∷◌, ◌++◌, Option, Some, None, Result, if◌then◌else◌, slice_get}
+use Rattle.std.specs.Prelude.{ℕ, Bool, true, false, ◌==◌, ◌&&◌, ◌||◌, nat_le, not, List, [], ◌∷◌, ◌++◌, Option, Some, None, Result, slice_get}
 use Rattle.std.specs.List.{list_any, filter, find}
 use Rattle.std.specs.Option.{option_map, ok_or}
 use Rattle.vn_types.specs.declared.address.Ip4.{Ip4}
@@ -9,10 +9,12 @@ use Rattle.vn_types.specs.declared.errno.Errno.TheVariants.{Inval, Exist, AddrNo
 use Rattle.vn_types.specs.declared.interface.IfOf.{IfOf}
 use Rattle.vn_types.specs.declared.interface.IfOf.TheVariants.{Lo0, Half}
 use Rattle.vn_types.specs.Interfaces.{if_same}
+use Rattle.vn_types.specs.Refusals.{first_refusal}
 use Rattle.vn_rules.specs.declared.address.AddrOf.{AddrOf}
 use Rattle.vn_rules.specs.Networks.{network_of, directed_broadcast, is_no_host, is_loopback, lies_in}
 
 module _ {N : Type 0} where
+  -- whether the interface is a half, and not lo0
   abbrev pub is_half : IfOf N → Bool
   is_half Lo0 = false
   is_half (Half n) = true
@@ -21,7 +23,8 @@ module _ {N : Type 0} where
   abbrev pub prefix_of : AddrOf N → Prefix
   prefix_of a = record { net = network_of a.ip a.len; len = a.len }
 
-  -- whether a broadcast address belongs to its network: not where two hosts have all of it (RFC 3021), nor a host alone
+  -- whether a broadcast address belongs to its network: not where two hosts have all of it (RFC 3021), nor
+  -- a host alone
   abbrev pub has_broadcast : AddrOf N → Bool
   has_broadcast a = nat_le a.len 30
 
@@ -29,11 +32,14 @@ module _ {N : Type 0} where
   abbrev pub is_end : AddrOf N → Bool
   is_end a = (a.ip.0 == (network_of a.ip a.len).0) || (a.ip.0 == (directed_broadcast a.ip a.len).0)
 
-  -- whether its interface cannot have it: no host has it, a half would have a loopback address, it is of no network,
-  -- or it stands for the network itself or all of its hosts
+  -- whether its interface cannot have it: no host has it, a half would have a loopback address, it is of no
+  -- network, or it stands for the network itself or all of its hosts
   abbrev pub is_unfit : AddrOf N → Bool
-  is_unfit a = is_no_host a.ip || (is_half a.on && is_loopback a.ip) || (a.len == 0) || (has_broadcast a && is_end a)
+  is_unfit a =
+      is_no_host a.ip || (is_half a.on && is_loopback a.ip) || (a.len == 0)
+      || (has_broadcast a && is_end a)
 
+  -- whether it is that address
   abbrev pub has_ip : Ip4 → AddrOf N → Bool
   has_ip ip a = a.ip.0 == ip.0
 
@@ -43,7 +49,7 @@ module _ {N : Type 0} where
 
   -- why an address is not added
   abbrev pub add_refusal : AddrOf N → List (AddrOf N) → Option Errno
-  add_refusal a addresses = if is_unfit a then Some Inval else (if local a.ip addresses then Some Exist else None)
+  add_refusal a addresses = first_refusal ((is_unfit a, Inval) ∷ (local a.ip addresses, Exist) ∷ [])
 
   -- one address more
   abbrev pub after_add : AddrOf N → List (AddrOf N) → List (AddrOf N)
@@ -51,8 +57,10 @@ module _ {N : Type 0} where
 
   -- whether it is the broadcast address of an address of a half
   abbrev pub is_broadcast_of : Ip4 → AddrOf N → Bool
-  is_broadcast_of ip a = is_half a.on && has_broadcast a && ((directed_broadcast a.ip a.len).0 == ip.0)
+  is_broadcast_of ip a =
+      is_half a.on && has_broadcast a && ((directed_broadcast a.ip a.len).0 == ip.0)
 
+  -- whether it is the broadcast address of one of the stack's
   abbrev pub broadcast : Ip4 → List (AddrOf N) → Bool
   broadcast ip addresses = list_any (is_broadcast_of ip) addresses
 
@@ -60,10 +68,12 @@ module _ {N : Type 0} where
   abbrev pub address_at : ℕ → List (AddrOf N) → Option (AddrOf N)
   address_at place addresses = slice_get addresses place
 
+  -- the address without its length
   abbrev ip_of : Option (AddrOf N) → Option Ip4
   ip_of found = option_map (λ (a : AddrOf N). a.ip) found
 
 module _ {N : Type 0} (same : N → N → Bool) where
+  -- whether it is an address of the interface
   abbrev is_on : IfOf N → AddrOf N → Bool
   is_on on a = if_same same a.on on
 
@@ -83,6 +93,7 @@ module _ {N : Type 0} (same : N → N → Bool) where
   abbrev pub is_same : AddrOf N → AddrOf N → Bool
   is_same a b = is_at a.on a.ip b && (b.len == a.len)
 
+  -- without that address, if there is one
   abbrev pub without_address : Option (AddrOf N) → List (AddrOf N) → List (AddrOf N)
   without_address None addresses = addresses
   without_address (Some a) addresses = filter (λ b. not (is_same a b)) addresses

@@ -1,20 +1,14 @@
 -- The rows of the constructor table, and what a stack has when they have run (VNET(9)).
-use Rattle.std.specs.Prelude.{ℕ, List, [], ◌∷◌, ◌++◌, codes}
+use Rattle.std.specs.Prelude.{ℕ, List, [], ◌∷◌, ◌++◌, find, codes, Option}
+use Rattle.std.specs.Str.{bytes_eq}
 use Rattle.vn_types.specs.declared.address.Ip4.{Ip4}
 use Rattle.vn_types.specs.declared.interface.IfOf.TheVariants.{Lo0}
 use Rattle.vn_rules.specs.declared.route.TargetOf.TheVariants.{Link}
 use Rattle.vn_rules.specs.declared.parts.PartsOf.{PartsOf}
-use Rattle.vn_rules.specs.declared.parts.Variable.{Variable}
 use Rattle.vn_rules.specs.declared.parts.Drops.{Drops}
+use Rattle.vn_rules.specs.Variables.{declared_variables}
 
--- the variables that each stack is given, with their first values
-abbrev pub declared_variables : List Variable
-declared_variables =
-    record { name = codes "net.inet.ip.forwarding"; value = 0 }
-    ∷ record { name = codes "net.inet.ip.ttl"; value = 64 }
-    ∷ record { name = codes "net.inet.udp.checksum"; value = 1 }
-    ∷ []
-
+-- nothing was dropped yet
 abbrev pub no_drops : Drops
 no_drops = record { link = 0; arp = 0; ip = 0; icmp = 0; udp = 0; full = 0 }
 
@@ -28,9 +22,13 @@ loopback_net = record { 0 = 0x7f000000 }
 
 -- a row of the table, by its place (subsystem, then order), and what its constructor does
 pub record RowOf (N : Type 0) : Type 0 where
+  -- rows run by subsystem
   pub subsystem : ℕ
+  -- and by order within one
   pub order : ℕ
+  -- what users call it
   pub name : List ℕ
+  -- what the constructor makes of a stack
   pub up : PartsOf N → PartsOf N
 
 module _ {N : Type 0} where
@@ -50,26 +48,40 @@ module _ {N : Type 0} where
     drops = no_drops;
   }
 
+  -- the row at a place
+  abbrev row_at : ℕ → ℕ → List ℕ → (PartsOf N → PartsOf N) → RowOf N
+  row_at subsystem order name up =
+      record { subsystem = subsystem; order = order; name = name; up = up }
+
   -- in the order of construction
   abbrev pub constructor_rows : List (RowOf N)
   constructor_rows =
-      record { subsystem = 1; order = 0; name = codes "vnet_data"; up = λ p. record p { variables = declared_variables; drops = no_drops } }
-      ∷ record { subsystem = 2; order = 0; name = codes "vnet_if"; up = λ p. record p { interfaces = [] } }
-      ∷ record { subsystem = 2; order = 1; name = codes "vnet_cloner"; up = λ p. p }
-      ∷ record { subsystem = 3; order = 0; name = codes "loif"; up = λ p. record p { interfaces = p.interfaces ++ Lo0 ∷ []; loopback = [] } }
-      ∷ record { subsystem = 4; order = 0; name = codes "inaddr"; up = λ p. record p { addresses = record { on = Lo0; ip = loopback_ip; len = 8 } ∷ [] } }
-      ∷ record { subsystem = 4; order = 1; name = codes "route"; up = λ p. record p { routes = record { to = record { net = loopback_net; len = 8 }; target = Link Lo0 } ∷ [] } }
-      ∷ record { subsystem = 5; order = 0; name = codes "arp"; up = λ p. record p { arp = [] } }
-      ∷ record { subsystem = 6; order = 0; name = codes "ip"; up = λ p. record p { ident = 0 } }
-      ∷ record { subsystem = 6; order = 1; name = codes "icmp"; up = λ p. record p { pings = record { next = 0; awaited = [] } } }
-      ∷ record { subsystem = 6; order = 2; name = codes "udp"; up = λ p. record p { sockets = [] } }
-      ∷ record { subsystem = 9; order = 0; name = codes "vnet_if_return"; up = λ p. p }
+      row_at 1 0 (codes "vnet_data")
+      (λ p. record p { variables = declared_variables; drops = no_drops })
+      ∷ row_at 2 0 (codes "vnet_if") (λ p. record p { interfaces = [] })
+      ∷ row_at 2 1 (codes "vnet_cloner") (λ p. p)
+      ∷ row_at 3 0 (codes "loif")
+      (λ p. record p { interfaces = p.interfaces ++ Lo0 ∷ []; loopback = [] })
+      ∷ row_at 4 0 (codes "inaddr")
+      (λ p. record p { addresses = record { on = Lo0; ip = loopback_ip; len = 8 } ∷ [] })
+      ∷ row_at 4 1 (codes "route")
+      (λ p. record p { routes = (record { net = loopback_net; len = 8 }, Link Lo0) ∷ [] })
+      ∷ row_at 5 0 (codes "arp") (λ p. record p { arp = [] })
+      ∷ row_at 6 0 (codes "ip") (λ p. record p { ident = 0 })
+      ∷ row_at 6 1 (codes "icmp") (λ p. record p { pings = record { next = 0; awaited = [] } })
+      ∷ row_at 6 2 (codes "udp") (λ p. record p { sockets = [] })
+      ∷ row_at 9 0 (codes "vnet_if_return") (λ p. p)
       ∷ []
+
+  -- the row of a name
+  abbrev pub row_named : List ℕ → Option (RowOf N)
+  row_named name = find (λ (row : RowOf N). bytes_eq name row.name) constructor_rows
 
   -- the constructors run one after another
   abbrev pub run_up : List (RowOf N) → PartsOf N → PartsOf N
   run_up [] p = p
   run_up (row ∷ rows) p = run_up rows (row.up p)
 
+  -- what they leave
   abbrev pub constructed_parts : PartsOf N
   constructed_parts = run_up constructor_rows bare_parts

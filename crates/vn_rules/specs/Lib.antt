@@ -1,7 +1,12 @@
-pub mod Interfaces
-pub mod Renamed
 pub mod Networks
-pub mod Construction
-pub mod Soundness
-pub mod Timers
+pub mod Variables
 pub mod Addresses
+pub mod Routes
+pub mod Interfaces
+pub mod Timers
+pub mod Renamed
+pub mod Construction
+pub mod Orders
+pub mod Soundness
+pub mod Rules
+pub mod Scenes

@@ -1,26 +1,23 @@
 -- Networks of addresses.
-use Rattle.std.specs.Prelude.{ℕ, Bool, false, ◌==◌, ◌&&◌, ◌||◌, nat_lt, ◌+◌, ◌-◌, ◌*◌, ◌/◌, ◌^◌, List}
-use Rattle.std.specs.List.{list_any}
+use Rattle.std.specs.Prelude.{ℕ, Bool, ◌==◌, ◌||◌, nat_lt, ◌+◌, ◌-◌, ◌*◌, ◌/◌, ◌^◌}
 use Rattle.vn_types.specs.declared.address.Ip4.{Ip4}
 use Rattle.vn_types.specs.declared.address.Prefix.{Prefix}
-use Rattle.vn_types.specs.declared.interface.IfOf.{IfOf}
-use Rattle.vn_types.specs.Interfaces.{if_same}
-use Rattle.vn_rules.specs.declared.route.RouteOf.{RouteOf}
-use Rattle.vn_rules.specs.declared.route.TargetOf.{TargetOf}
-use Rattle.vn_rules.specs.declared.route.TargetOf.TheVariants.{Link, Gateway}
 
 -- an address with the bits past a length of at most 32 cleared
 unfoldable pub network_of : Ip4 → ℕ → Ip4
 network_of ip len = record { 0 = ip.0 / 2 ^ (32 - len) * 2 ^ (32 - len) }
 
--- the same with these bits set: the directed broadcast address of that network (RFC 1122, section 3.2.1.3)
+-- the same with these bits set: the directed broadcast address of that network (RFC 1122,
+-- section 3.2.1.3)
 unfoldable pub directed_broadcast : Ip4 → ℕ → Ip4
 directed_broadcast ip len = record { 0 = (network_of ip len).0 + (2 ^ (32 - len) - 1) }
 
+-- the first of its four octets
 unfoldable pub first_octet : Ip4 → ℕ
 first_octet ip = ip.0 / 2 ^ 24
 
--- whether no host has the address: `this' network, classes D and E, the limited broadcast (RFC 1122, section 3.2.1.3)
+-- whether no host has the address: `this' network, classes D and E, the limited broadcast (RFC 1122,
+-- section 3.2.1.3)
 abbrev pub is_no_host : Ip4 → Bool
 is_no_host ip = (first_octet ip == 0) || nat_lt 223 (first_octet ip)
 
@@ -31,12 +28,3 @@ is_loopback ip = first_octet ip == 127
 -- whether the address lies in the network
 unfoldable pub lies_in : Ip4 → Prefix → Bool
 lies_in ip to = (network_of ip to.len).0 == to.net.0
-
-module _ {N : Type 0} (same : N → N → Bool) where
-  abbrev pub is_link_on : IfOf N → TargetOf N → Bool
-  is_link_on on (Link own) = if_same same own on
-  is_link_on on (Gateway via half) = false
-
-  -- whether an interface route of the interface covers the address
-  unfoldable pub covers : IfOf N → Ip4 → List (RouteOf N) → Bool
-  covers on ip routes = list_any (λ r. is_link_on on r.target && lies_in ip r.to) routes

@@ -1,46 +1,46 @@
 -- What the parts of a stack keep among themselves, as tests.
-use Rattle.std.specs.Prelude.{ℕ, Bool, true, false, ◌==◌, ◌&&◌, not, nat_lt, List, [], ◌∷◌, Option, Some, None, count_by}
+use Rattle.std.specs.Prelude.{ℕ, Bool, true, false, ◌==◌, ◌&&◌, nat_lt, List, Option, Some, None, count_by}
 use Rattle.std.specs.List.{list_any, list_all}
 use Rattle.vn_types.specs.declared.address.Ip4.{Ip4}
 use Rattle.vn_types.specs.declared.interface.IfOf.TheVariants.{Half}
 use Rattle.vn_types.specs.declared.address.Prefix.{Prefix}
 use Rattle.vn_types.specs.Interfaces.{if_same}
 use Rattle.vn_rules.specs.declared.address.AddrOf.{AddrOf}
-use Rattle.vn_rules.specs.declared.route.RouteOf.{RouteOf}
-use Rattle.vn_rules.specs.declared.route.TargetOf.{TargetOf}
+use Rattle.vn_types.specs.declared.interface.IfOf.{IfOf}
 use Rattle.vn_rules.specs.declared.route.TargetOf.TheVariants.{Link, Gateway}
 use Rattle.vn_rules.specs.declared.arp.ArpEntryOf.{ArpEntryOf}
 use Rattle.vn_rules.specs.declared.arp.ArpState.{ArpState}
 use Rattle.vn_rules.specs.declared.arp.ArpState.TheVariants.{Static, Incomplete, Learnt, Down}
 use Rattle.vn_rules.specs.declared.ping.PingOf.{PingOf}
 use Rattle.vn_rules.specs.declared.socket.SocketOf.{SocketOf}
-use Rattle.vn_rules.specs.declared.timer.TimerOf.{TimerOf}
 use Rattle.vn_rules.specs.declared.timer.TimerOf.TheVariants.{Arp, Ping}
 use Rattle.vn_rules.specs.declared.parts.PartsOf.{PartsOf}
 use Rattle.vn_rules.specs.Interfaces.{named_ifs, is_among}
-use Rattle.vn_rules.specs.Networks.{lies_in, covers}
+use Rattle.vn_rules.specs.Addresses.{local}
+use Rattle.vn_rules.specs.Networks.{lies_in}
+use Rattle.vn_rules.specs.Orders.{are_distinct, keeps_orders}
+use Rattle.vn_rules.specs.Routes.{Routed, covers}
+use Rattle.vn_rules.specs.Timers.{Timed}
 
 module _ {N : Type 0} where
-  -- whether the address is one of the stack's
-  abbrev pub is_local : Ip4 → PartsOf N → Bool
-  is_local ip p = list_any (λ a. a.ip.0 == ip.0) p.addresses
-
+  -- whether a local address, where it is set, is one of the stack's
   abbrev pub is_bound_locally : PartsOf N → Option Ip4 → Bool
   is_bound_locally p None = true
-  is_bound_locally p (Some ip) = is_local ip p
+  is_bound_locally p (Some ip) = local ip p.addresses
 
   -- each socket's local address, where it is set, is one of the stack's
   unfoldable pub binds_locally : PartsOf N → Bool
   binds_locally p = list_all (λ (s : SocketOf N). is_bound_locally p s.ip) p.sockets
 
   -- whether it is the timer of that awaited ping
-  abbrev pub is_timer_for : PingOf N → (ℕ × ℕ) × TimerOf N → Bool
+  abbrev pub is_timer_for : PingOf N → Timed N → Bool
   is_timer_for ping (at, Arp half ip) = false
   is_timer_for ping (at, Ping id arm) = (at.1 == ping.arm) && (arm == ping.arm) && (id == ping.id)
 
   -- each awaited ping has its timer, and one alone
   unfoldable pub times_pings : PartsOf N → Bool
-  times_pings p = list_all (λ ping. count_by (is_timer_for ping) p.timers.standing == 1) p.pings.awaited
+  times_pings p =
+      list_all (λ ping. count_by (is_timer_for ping) p.timers.standing == 1) p.pings.awaited
 
   -- each arm number was given before the next one
   unfoldable pub gave_arms : PartsOf N → Bool
@@ -48,8 +48,7 @@ module _ {N : Type 0} where
 
   -- no two awaited pings have one arm number
   unfoldable pub has_distinct_arms : List (PingOf N) → Bool
-  has_distinct_arms [] = true
-  has_distinct_arms (ping ∷ pings) = not (list_any (λ (other : PingOf N). other.arm == ping.arm) pings) && has_distinct_arms pings
+  has_distinct_arms pings = are_distinct (λ (a : PingOf N) (b : PingOf N). a.arm == b.arm) pings
 
 module _ {N : Type 0} (same : N → N → Bool) where
   -- each interface that the parts name is one of the stack's
@@ -57,18 +56,21 @@ module _ {N : Type 0} (same : N → N → Bool) where
   names_own p = list_all (is_among same p.interfaces) (named_ifs p)
 
   -- whether it is a timer of that ARP entry
-  abbrev pub is_timer_at : ArpEntryOf N → (ℕ × ℕ) × TimerOf N → Bool
+  abbrev pub is_timer_at : ArpEntryOf N → Timed N → Bool
   is_timer_at e (at, Arp half ip) = same half e.half && (ip.0 == e.ip.0)
   is_timer_at e (at, Ping id arm) = false
 
-  abbrev pub has_owner : PartsOf N → (ℕ × ℕ) × TimerOf N → Bool
+  -- whether the ARP entry or the awaited ping of a timer is there
+  abbrev pub has_owner : PartsOf N → Timed N → Bool
   has_owner p (at, Arp half ip) = list_any (λ e. is_timer_at e (at, Arp half ip)) p.arp
-  has_owner p (at, Ping id arm) = list_any (λ ping. is_timer_for ping (at, Ping id arm)) p.pings.awaited
+  has_owner p (at, Ping id arm) =
+      list_any (λ ping. is_timer_for ping (at, Ping id arm)) p.pings.awaited
 
   -- each timer is that of an ARP entry or of an awaited ping
   unfoldable pub owns_timers : PartsOf N → Bool
   owns_timers p = list_all (has_owner p) p.timers.standing
 
+  -- how many timers an ARP entry is to have
   abbrev pub timers_wanted : ArpState → ℕ
   timers_wanted Static = 0
   timers_wanted Incomplete = 1
@@ -77,21 +79,51 @@ module _ {N : Type 0} (same : N → N → Bool) where
 
   -- each ARP entry has exactly one timer, a static one none
   unfoldable pub times_arp : PartsOf N → Bool
-  times_arp p = list_all (λ (e : ArpEntryOf N). count_by (is_timer_at e) p.timers.standing == timers_wanted e.state) p.arp
+  times_arp p =
+      list_all
+      (λ (e : ArpEntryOf N). count_by (is_timer_at e) p.timers.standing == timers_wanted e.state)
+      p.arp
+
+  -- whether two ARP entries are of one address on one half
+  abbrev pub is_same_entry : ArpEntryOf N → ArpEntryOf N → Bool
+  is_same_entry a b = same a.half b.half && (a.ip.0 == b.ip.0)
 
   -- no half has two ARP entries for one address
   unfoldable pub has_distinct_entries : List (ArpEntryOf N) → Bool
-  has_distinct_entries [] = true
-  has_distinct_entries (e ∷ es) = not (list_any (λ (other : ArpEntryOf N). same other.half e.half && (other.ip.0 == e.ip.0)) es) && has_distinct_entries es
+  has_distinct_entries entries = are_distinct is_same_entry entries
 
   -- each ARP entry's address is covered by an interface route of its half
   unfoldable pub covers_arp : PartsOf N → Bool
   covers_arp p = list_all (λ (e : ArpEntryOf N). covers same (Half e.half) e.ip p.routes) p.arp
 
-  -- an interface route has an address of its interface with that network, and a gateway is covered by an interface route of its half
-  abbrev pub is_founded : PartsOf N → Prefix → TargetOf N → Bool
-  is_founded p to (Link on) = list_any (λ (a : AddrOf N). if_same same a.on on && (a.len == to.len) && lies_in a.ip to) p.addresses
-  is_founded p to (Gateway via half) = covers same (Half half) via p.routes
+  -- whether an address of the interface is of that network
+  abbrev pub is_address_of : IfOf N → Prefix → AddrOf N → Bool
+  is_address_of on to a = if_same same a.on on && (a.len == to.len) && lies_in a.ip to
 
+  -- an interface route has an address of its interface with that network, and a gateway is covered by
+  -- an interface route of its half
+  abbrev pub is_founded : PartsOf N → Routed N → Bool
+  is_founded p (to, Link on) = list_any (is_address_of on to) p.addresses
+  is_founded p (to, Gateway via half) = covers same (Half half) via p.routes
+
+  -- each route has what it stands on
   unfoldable pub founds_routes : PartsOf N → Bool
-  founds_routes p = list_all (λ (r : RouteOf N). is_founded p r.to r.target) p.routes
+  founds_routes p = list_all (is_founded p) p.routes
+
+  -- ---- all of them
+
+  -- timers and awaited pings belong together
+  abbrev pub keeps_timers : PartsOf N → Bool
+  keeps_timers p = owns_timers p && times_pings p
+
+  -- ARP entries are one for each address and have their timers and routes, routes their addresses,
+  -- and timers and awaited pings arm numbers of their own
+  abbrev pub keeps_tables : PartsOf N → Bool
+  keeps_tables p =
+      has_distinct_entries p.arp && times_arp p && covers_arp p && founds_routes p && gave_arms p
+      && has_distinct_arms p.pings.awaited
+
+  -- all that the parts of a stack keep among themselves, and each for itself
+  abbrev pub is_sound_parts : PartsOf N → Bool
+  is_sound_parts p =
+      names_own p && binds_locally p && keeps_timers p && keeps_tables p && keeps_orders p

@@ -34,6 +34,7 @@ abbrev pub Timed : Type 0 → Type 0
 Timed N = Turn × TimerOf N
 
 module _ {N : Type 0} where
+  -- a stack in which none was armed
   abbrev pub no_timers : TimersOf N
   no_timers = record { armed = 0; standing = [] }
 
@@ -44,14 +45,19 @@ module _ {N : Type 0} where
 
   -- one timer more, with the next arm number
   abbrev pub after_arm : ℕ → TimerOf N → TimersOf N → TimersOf N
-  after_arm deadline what t = record { armed = t.armed + 1; standing = insert_entry turn_cmp t.standing (deadline, t.armed) (with_arm t.armed what) }
+  after_arm deadline what t = record {
+    armed = t.armed + 1;
+    standing = insert_entry turn_cmp t.standing (deadline, t.armed) (with_arm t.armed what);
+  }
 
   -- whether a timer with the arm number stands
   abbrev pub has_timer : ℕ → TimersOf N → Bool
   has_timer arm t = list_any (λ (e : Timed N). e.0.1 == arm) t.standing
 
+  -- without the timer of an arm number
   abbrev pub without_timer : ℕ → TimersOf N → TimersOf N
-  without_timer arm t = record t { standing = filter (λ (e : Timed N). not (e.0.1 == arm)) t.standing }
+  without_timer arm t =
+      record t { standing = filter (λ (e : Timed N). not (e.0.1 == arm)) t.standing }
 
   -- the one that comes first
   abbrev pub earlier : Timed N → Option (Timed N) → Timed N
@@ -75,6 +81,7 @@ module _ {N : Type 0} where
   abbrev pub due : ℕ → TimersOf N → Option (TimerOf N)
   due now t = option_map (λ (e : Timed N). e.1) (next_due now t)
 
+  -- without that timer, if there is one
   abbrev pub without_timed : Option (Timed N) → TimersOf N → TimersOf N
   without_timed None t = t
   without_timed (Some e) t = record t { standing = remove_entry (is_at (turn_cmp e.0)) t.standing }
@@ -94,12 +101,17 @@ module _ {N : Type 0} where
 
   -- a timer for `what` stands and is due, and no other that is due comes before it
   pub record IsFirstDue (now : ℕ) (t : TimersOf N) (what : TimerOf N) : Type 0 where
+    -- its turn
     pub at : Turn
+    -- it is among those that stand
     pub stands : Contains t.standing (at, what)
+    -- its deadline has come
     pub has_come : at.0 ≤ now
+    -- none that is due has an earlier turn
     pub is_first : All (λ (e : Timed N). e.0.0 ≤ now → IsNotAfter at e.0) t.standing
 
 module _ {N : Type 0} (same : N → N → Bool) where
   -- without the timers of the ARP entries on a half
   abbrev pub times_without : N → TimersOf N → TimersOf N
-  times_without half t = record t { standing = filter (λ (e : Timed N). not (is_timer_of same half e.1)) t.standing }
+  times_without half t =
+      record t { standing = filter (λ (e : Timed N). not (is_timer_of same half e.1)) t.standing }

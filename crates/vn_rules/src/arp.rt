@@ -1,6 +1,12 @@
 use bytes::Bytes;
 use vn_types::{HalfId, Ip4, List, Mac};
 
+/// The most datagrams that an incomplete entry holds.
+pub const HELD_MAX: usize = 16;
+
+/// The most requests that are sent for an incomplete entry.
+pub const REQUESTS_MAX: u8 = 5;
+
 /// How far the resolution of an address has come (arp(4)).
 #[derive(Clone, Copy, PartialEq, Eq)]
 pub enum ArpState {

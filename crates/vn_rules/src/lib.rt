@@ -5,17 +5,21 @@
 mod address;
 mod arp;
 mod network;
+mod outcome;
 mod parts;
 mod ping;
 mod route;
 mod socket;
 mod timer;
+mod variable;
 
 pub use address::{Addr, AddrOf};
-pub use arp::{ArpEntry, ArpEntryOf, ArpState};
+pub use arp::{ArpEntry, ArpEntryOf, ArpState, HELD_MAX, REQUESTS_MAX};
 pub use network::{directed_broadcast, is_loopback, is_no_host, lies_in, network_of};
-pub use parts::{Drops, PartsOf, Variable};
+pub use outcome::Outcome;
+pub use parts::{Drops, LOOPBACK_MAX, PartsOf};
 pub use ping::{Ping, PingOf, PingsOf};
-pub use route::{Route, RouteOf, Target, TargetOf};
-pub use socket::{Gram, GramOf, Peer, SocketOf};
+pub use route::{Target, TargetOf};
+pub use socket::{Gram, GramOf, Peer, RECEIVED_MAX, SocketOf};
 pub use timer::{Timer, TimerOf, TimersOf};
+pub use variable::{Bounds, Variable};

@@ -1,17 +1,15 @@
 use crate::address::AddrOf;
 use crate::arp::ArpEntryOf;
 use crate::ping::PingsOf;
-use crate::route::RouteOf;
+use crate::route::TargetOf;
 use crate::socket::SocketOf;
 use crate::timer::TimersOf;
+use crate::variable::Variable;
 use bytes::Bytes;
-use vn_types::{IfOf, List, Name};
+use vn_types::{IfOf, List, Prefix};
 
-/// A variable of a stack with its value (sysctl(8), VNET(9)).
-pub struct Variable {
-    pub name: Name,
-    pub value: u64,
-}
+/// The most datagrams that are on their way through lo0 at a time.
+pub const LOOPBACK_MAX: usize = 256;
 
 /// How many frames, packets and datagrams a stack dropped, by cause (netstat(1), `-s`).
 #[derive(Clone, Copy, PartialEq, Eq)]
@@ -34,7 +32,7 @@ pub struct PartsOf<N> {
     /// In order of adding.
     pub addresses: List<AddrOf<N>>,
     /// By network, then by length; no prefix stands twice.
-    pub routes: List<RouteOf<N>>,
+    pub routes: List<(Prefix, TargetOf<N>)>,
     /// In order of making.
     pub arp: List<ArpEntryOf<N>>,
     /// In order of opening.

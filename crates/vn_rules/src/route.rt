@@ -1,8 +1,8 @@
 ghost use Rattle.std.specs.Prelude.{◌≡◌};
 ghost use Rattle.vn_types.specs.Interfaces.{half_id_eq, if_same};
-ghost use Rattle.vn_rules.specs.Interfaces.{route_if};
+ghost use Rattle.vn_rules.specs.Interfaces.{target_if};
 
-use vn_types::{HalfId, If, IfOf, Ip4, Prefix, same_interface};
+use vn_types::{HalfId, If, IfOf, Ip4, same_interface};
 
 /// Where a route leads (route(8)): to a network on an interface, or by a gateway beyond a half.
 #[derive(Clone, Copy, PartialEq, Eq)]
@@ -11,33 +11,23 @@ pub enum TargetOf<N> {
     Gateway { via: Ip4, on: N },
 }
 
-/// A route to a network.
-#[derive(Clone, Copy, PartialEq, Eq)]
-pub struct RouteOf<N> {
-    pub to: Prefix,
-    pub target: TargetOf<N>,
-}
-
 /// A target, as the tables name its interface.
 pub type Target = TargetOf<HalfId>;
 
-/// A route, as the tables name its interface.
-pub type Route = RouteOf<HalfId>;
-
-impl RouteOf<HalfId> {
-    /// The interface by which the route leaves the stack.
+impl TargetOf<HalfId> {
+    /// The interface by which a route to it leaves the stack.
     pub fn interface(self) -> If
-        ensures { result ≡ route_if self }
+        ensures { result ≡ target_if self }
     {
-        match self.target {
+        match self {
             Target::Link(on) => on,
             Target::Gateway { via: _, on } => If::Half(on),
         }
     }
 
-    /// Whether the route leaves the stack by the interface.
+    /// Whether a route to it leaves the stack by the interface.
     pub fn is_on(self, on: If) -> bool
-        ensures { result ≡ if_same half_id_eq (route_if self) on }
+        ensures { result ≡ if_same half_id_eq (target_if self) on }
     {
         same_interface(self.interface(), on)
     }

@@ -1,6 +1,9 @@
 use bytes::Bytes;
 use vn_types::{HalfId, IfOf, Ip4, List, SockName};
 
+/// The most datagrams that a socket keeps.
+pub const RECEIVED_MAX: usize = 32;
+
 /// A datagram that a socket has received (RFC 768), with the interface by which it came.
 pub struct GramOf<N> {
     pub src: Ip4,
