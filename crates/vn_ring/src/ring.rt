@@ -20,7 +20,8 @@ impl Model for FrameRing {
 
     ghost view = { λ r. record { frames = r.frames.items; capacity = r.frames.capacity } };
 
-    ghost invariant = { λ r. (0 < r.frames.capacity) × (length r.frames.items ≤ r.frames.capacity) };
+    ghost invariant = { λ r. (0 < r.frames.capacity)
+        × (length r.frames.items ≤ r.frames.capacity) };
 }
 
 impl FrameRing {
@@ -29,16 +30,15 @@ impl FrameRing {
         requires { 0 < capacity }
         ensures { IfOk result (λ queue. queue ≡ record { frames = []; capacity = capacity }) }
     {
-        match HeapCircularBuffer::with_capacity(alloc, capacity as usize) {
-            Ok(frames) => Ok(FrameRing { frames }),
-            Err(_) => Err(NoMemory),
-        }
+        let frames = HeapCircularBuffer::with_capacity(alloc, capacity as usize)?;
+        Ok(FrameRing { frames })
     }
 
     /// Puts a frame behind the others, or hands it back.
     pub fn try_put(&mut self, frame: Bytes) -> Result<(), Bytes>
         ensures room { IsOk result ↔ (length self.old.frames < self.old.capacity) }
-        ensures put { OnOk result (self.new ≡ record self.old { frames = self.old.frames ++ frame ∷ [] }) }
+        ensures put { OnOk result (self.new
+            ≡ record self.old { frames = self.old.frames ++ frame ∷ [] }) }
         ensures handed_back { IfErr result (λ back. back ≡ frame) }
         ensures unchanged { OnErr result (self.new ≡ self.old) }
     {
