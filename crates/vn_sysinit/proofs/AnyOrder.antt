@@ -1,24 +1,27 @@
 -- Entries that clash with no other, registered in any order.
-use Rattle.std.proofs.Common.{◌≡◌, ℕ, zero, suc, ◌<◌, ◌⊎◌, inl, inr, Bool, true, false, not, ◌&&◌, ◌||◌, ◌==◌, List, [], ◌∷◌, ◌++◌, map, Some, refl, sym, ap, subst, ◌∙◌, arith}
-use Rattle.std.specs.List.{AllByRecursion, IsDistinct, Contains, list_all, slice_index_or}
+use Rattle.std.proofs.Common.{◌≡◌, ℕ, zero, suc, ◌<◌, ◌⊎◌, inl, inr, Bool, false, ◌&&◌, ◌||◌, ◌==◌, List, [], ◌∷◌, ◌++◌, map, Some, refl, sym, ap, subst, ◌∙◌, arith}
+use Rattle.std.specs.List.{AllByRecursion, IsDistinct, Contains, slice_index_or}
 use Rattle.std.specs.List.Sorted.{IsStrictlySortedBy, IsPermutation}
 use Rattle.std.specs.Option.{option_map}
-use Rattle.std.specs.Ordering.{nat_cmp, ordering_then, is_eq, is_lt}
-use Rattle.std.specs.declared.cmp.Ordering.{Ordering}
-use Rattle.std.specs.declared.cmp.Ordering.TheVariants.{Less, Equal, Greater}
+use Rattle.std.specs.Ordering.{nat_cmp, ordering_then, is_eq}
+use Rattle.std.specs.declared.cmp.Ordering.TheVariants.{Less}
 use Rattle.std.specs.Cmp.{IsTotalOrder}
 use Rattle.std.specs.Map.{keys_of}
-use Rattle.std.proofs.lemmas.Bool.{or_parts, and_parts}
+use Rattle.std.proofs.lemmas.Bool.{or_parts}
 use Rattle.std.proofs.lemmas.Bool.Decides.{nat_tests}
 use Rattle.std.proofs.lemmas.Cmp.{then_total, on_total, nat_cmp_total, nat_eq_equiv, nat_list_eq_equiv, tied_itself}
 use Rattle.std.proofs.lemmas.List.{append-nil}
 use Rattle.std.proofs.lemmas.List.Elements.{Contains-append_cases, Contains-append_right}
 use Rattle.std.proofs.lemmas.List.Sorted.{IsPermutation-sym, IsPermutation-trans, IsPermutation-middle, IsPermutation-append_right, IsPermutation-map, Contains-permutation}
 use Rattle.std.proofs.lemmas.Map.Keys.{sorted_head, sorted_tail, IsDistinct-head, IsDistinct-IsPermutation}
+use Rattle.vn_rules.specs.Construction.{row_named}
+use Rattle.vn_rules.proofs.Constructed.{rows-named}
+use Rattle.vn_rules.proofs.OrderLaws.{IsStrictlySortedBy-from_rising, IsDistinct-from_test}
 use Rattle.vn_sysinit.specs.declared.entry.SysEntry.{SysEntry}
 use Rattle.vn_sysinit.specs.Table.{Place, place_cmp, Row, row_of, clash, is_taken, with_entry, AreInOrder, up_names, down_names}
 use Rattle.vn_sysinit.specs.Rows.{registered, constructor_entries, RunInTableOrder}
-use Rattle.vn_sysinit.proofs.Insertion.{Lacks, IsPermutation-insert_entry, IsStrictlySortedBy-insert_entry}
+use Rattle.vn_types.proofs.EntryLaws.{IsStrictlySortedBy-insert_entry}
+use Rattle.vn_sysinit.proofs.Insertion.{Lacks, IsPermutation-insert_entry}
 
 pub place_cmp_total : IsTotalOrder place_cmp
 place_cmp_total = then_total (on_total (λ (a : Place). a.0) nat_cmp_total) (on_total (λ (a : Place). a.1) nat_cmp_total)
@@ -128,52 +131,18 @@ registered-rows all order distinct (entry ∷ entries) rows in_order moved =
 
 -- ---- the constructors of a stack
 
-abbrev all_pass : (Row → Bool) → List Row → Bool
-all_pass test rows = list_all test rows
-
--- whether each row comes after those before it, and clashes with none
-abbrev is_table : List Row → Bool
-is_table [] = true
-is_table (row ∷ rows) = all_pass (λ other. is_lt (place_cmp row.0 other.0)) rows && all_pass (λ other. not (clash row other)) rows && is_table rows
-
-keys_after : (place : Place) (rows : List Row) → all_pass (λ other. is_lt (place_cmp place other.0)) rows ≡ true → AllByRecursion (λ q. place_cmp place q ≡ Less) (keys_of rows)
-keys_after place [] pass = tt
-keys_after place (row ∷ rows) pass = let parts = and_parts (is_lt (place_cmp place row.0)) _ pass in (is_Less (place_cmp place row.0) parts.0, keys_after place rows parts.1)
-  where
-    is_Less : (o : Ordering) → is_lt o ≡ true → o ≡ Less
-    is_Less Less pass = refl
-    is_Less Equal pass = cc
-    is_Less Greater pass = cc
-
-clash_free : (row : Row) (rows : List Row) → all_pass (λ other. not (clash row other)) rows ≡ true → AllByRecursion (λ other. clash row other ≡ false) rows
-clash_free row [] pass = tt
-clash_free row (other ∷ others) pass = let parts = and_parts (not (clash row other)) _ pass in (is_false (clash row other) parts.0, clash_free row others parts.1)
-  where
-    is_false : (b : Bool) → not b ≡ true → b ≡ false
-    is_false true pass = cc
-    is_false false pass = refl
-
-table_in_order : (rows : List Row) → is_table rows ≡ true → AreInOrder rows
-unfolding IsStrictlySortedBy
-table_in_order [] pass = tt
-table_in_order (row ∷ rows) pass =
-    let parts = and_parts _ (is_table rows) pass in
-    let tests = and_parts (all_pass (λ other. is_lt (place_cmp row.0 other.0)) rows) _ parts.0 in
-    (keys_after row.0 rows tests.0, table_in_order rows parts.1)
-
-table_distinct : (rows : List Row) → is_table rows ≡ true → IsDistinct clash rows
-unfolding IsDistinct
-table_distinct [] pass = tt
-table_distinct (row ∷ rows) pass =
-    let parts = and_parts _ (is_table rows) pass in
-    let tests = and_parts _ (all_pass (λ other. not (clash row other)) rows) parts.0 in
-    (clash_free row rows tests.1, table_distinct rows parts.1)
-
 constructors-registered : (entries : List SysEntry) → IsPermutation constructor_entries entries → registered entries [] ≡ Some (map row_of constructor_entries)
 unfolding IsStrictlySortedBy
 constructors-registered entries moved =
-    registered-rows (map row_of constructor_entries) (table_in_order (map row_of constructor_entries) refl) (table_distinct (map row_of constructor_entries) refl) entries [] tt
+    registered-rows (map row_of constructor_entries) (IsStrictlySortedBy-from_rising place_cmp (keys_of (map row_of constructor_entries)) refl)
+    (IsDistinct-from_test clash (map row_of constructor_entries) refl) entries [] tt
     (rw append-nil (IsPermutation-map row_of constructor_entries entries moved))
 
 pub constructors-in_order : (entries : List SysEntry) → IsPermutation constructor_entries entries → RunInTableOrder entries
-constructors-in_order entries moved = record { up = ap (option_map up_names) (constructors-registered entries moved); down = ap (option_map down_names) (constructors-registered entries moved) }
+constructors-in_order entries moved =
+    let registered = constructors-registered entries moved in
+    record {
+      up = ap (option_map up_names) registered;
+      down = ap (option_map down_names) registered;
+      rows = ap (option_map (λ (rows : List Row). map row_named (up_names rows))) registered ∙ ap Some rows-named;
+    }

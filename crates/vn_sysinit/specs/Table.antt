@@ -21,6 +21,7 @@ place_cmp a b = ordering_then (nat_cmp a.0 b.0) (nat_cmp a.1 b.1)
 abbrev pub Row : Type 0
 Row = Place × List ℕ
 
+-- the row of an entry
 abbrev pub row_of : SysEntry → Row
 row_of entry = ((entry.subsystem, entry.order), entry.name)
 

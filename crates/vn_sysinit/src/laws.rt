@@ -6,5 +6,6 @@ ghost use Rattle.vn_sysinit.specs.Rows.{constructor_entries, RunInTableOrder};
 /// In whatever order the constructors of a stack are registered, each is accepted, and they run in the
 /// order of their table.
 pub fn law_of_constructor_rows()
-    ensures { (entries : List Entry) → IsPermutation constructor_entries entries → RunInTableOrder entries }
+    ensures { (entries : List Entry) →
+        IsPermutation constructor_entries entries → RunInTableOrder entries }
 {}

@@ -3,7 +3,7 @@ ghost use Rattle.std.specs.List.Sorted.{IsPermutation};
 ghost use Rattle.vn_sysinit.specs.Table.{row_of, is_taken, with_entry, AreInOrder, up_names, down_names};
 
 use crate::entry::SysEntry;
-use std::alloc::Global;
+use std::alloc::{AllocFailed, Global};
 use std::collections::BTreeMap;
 use std::marker::Model;
 use vn_types::{List, Name, NoMemory};
@@ -14,6 +14,17 @@ pub enum RegisterFault {
     /// Its name, or its subsystem and order, is registered.
     Taken,
     NoMemory,
+}
+
+impl<T: Drop> From<AllocFailed<T>> for RegisterFault {
+    ghost use Rattle.std.specs.Prelude.{◌≡◌};
+    ghost use Rattle.vn_sysinit.specs.declared.table.RegisterFault.TheVariants as fault;
+
+    ghost from_gives = { λ _ e. e ≡ fault.NoMemory };
+
+    fn from(_error: AllocFailed<T>) -> RegisterFault {
+        RegisterFault::NoMemory
+    }
 }
 
 /// The registered entries, seen as the list of their places and names, in the order of the places.
@@ -61,9 +72,7 @@ impl SysTable {
             order,
             name,
         } = entry;
-        let Ok(_) = self.names.insert((subsystem, order), name) else {
-            return Err(RegisterFault::NoMemory);
-        };
+        self.names.insert((subsystem, order), name)?;
         Ok(())
     }
 
@@ -82,8 +91,7 @@ impl SysTable {
     {
         let mut up = List::new(self.alloc);
         for name in self.names.values() {
-            let copy = name.copy()?;
-            up.push(copy)?;
+            up.push(name.copy()?)?;
         }
         Ok(up)
     }
@@ -95,8 +103,7 @@ impl SysTable {
     {
         let mut down = List::new(self.alloc);
         for name in self.names.values().rev() {
-            let copy = name.copy()?;
-            down.push(copy)?;
+            down.push(name.copy()?)?;
         }
         Ok(down)
     }
