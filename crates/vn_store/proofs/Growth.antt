@@ -1,12 +1,14 @@
 -- One variable more, and the values that stand behind the first ones.
 use Rattle.std.proofs.Common.{◌≡◌, ℕ, zero, suc, true, ◌&&◌, List, [], ◌∷◌, ◌++◌, map, length, take, Option, Some, None, option_map, slice_index_or, refl, sym, ap, ◌∙◌}
 use Rattle.std.proofs.lemmas.Bool.{and_parts, false≢true}
-use Rattle.vn_store.specs.Limits.{allows}
-use Rattle.vn_store.specs.Rows.{row, cut, grown}
-use Rattle.vn_store.specs.Variables.{Declaration, with_variable, first_variables, named, shown, are_values, is_row, are_declarations}
+use Rattle.vn_rules.specs.Variables.{allows}
+use Rattle.vn_types.specs.PerStack.{of as kept_for}
+use Rattle.vn_store.specs.Rows.{cut, grown}
+use Rattle.vn_rules.specs.Variables.{Declaration, with_variable, first_variables}
+use Rattle.vn_store.specs.Variables.{named, shown, are_values, is_row, are_declarations}
 
 -- what is shown of a stack is what its row shows
-pub shown-row : (ds : List Declaration) (rows : List (Option (List ℕ))) (q : ℕ) → slice_index_or (shown ds rows) q None ≡ option_map (named ds) (row rows q)
+pub shown-row : (ds : List Declaration) (rows : List (Option (List ℕ))) (q : ℕ) → slice_index_or (shown ds rows) q None ≡ option_map (named ds) (kept_for None rows q)
 shown-row ds [] zero = refl
 shown-row ds [] (suc q) = refl
 shown-row ds (r ∷ rows) zero = refl

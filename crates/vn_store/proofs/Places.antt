@@ -4,9 +4,10 @@ use Rattle.std.specs.Str.{bytes_eq}
 use Rattle.std.specs.Map.{keys_of, lookup}
 use Rattle.std.proofs.lemmas.Bool.{and_parts, false≢true}
 use Rattle.std.proofs.lemmas.List.Quantifiers.{position-Some}
-use Rattle.vn_store.specs.declared.bounds.Bounds.{Bounds}
-use Rattle.vn_store.specs.Limits.{allows}
-use Rattle.vn_store.specs.Variables.{bounds_of, value_of, with_value, declarations, named, are_values}
+use Rattle.vn_rules.specs.declared.variable.Bounds.{Bounds}
+use Rattle.vn_rules.specs.Variables.{allows}
+use Rattle.vn_rules.specs.Variables.{bounds_of, value_of, with_value}
+use Rattle.vn_store.specs.Variables.{declared_in, named, are_values}
 
 module _ {Y : Type 0} (name : List ℕ) where
   abbrev pub is_name : String Y → Bool
@@ -31,34 +32,34 @@ module _ {Y : Type 0} (name : List ℕ) where
       (λ k d. (position-Some is_name (keys_of (e ∷ es)) i d at).2 k)
 
   -- the bounds are those that the map has
-  pub bounds_of-declarations : (es : List (String Y × Bounds)) → bounds_of name (declarations es) ≡ lookup is_name es
-  bounds_of-declarations [] = refl
-  bounds_of-declarations (e ∷ es) = ap (cond (is_name e.0) (Some e.1)) (bounds_of-declarations es)
+  pub bounds_of-declared_in : (es : List (String Y × Bounds)) → bounds_of name (declared_in es) ≡ lookup is_name es
+  bounds_of-declared_in [] = refl
+  bounds_of-declared_in (e ∷ es) = ap (cond (is_name e.0) (Some e.1)) (bounds_of-declared_in es)
 
-  pub within-at : (es : List (String Y × Bounds)) (i : ℕ) (vs : List ℕ) → IsAt es i → are_values (declarations es) vs ≡ true → i < length vs
+  pub within-at : (es : List (String Y × Bounds)) (i : ℕ) (vs : List ℕ) → IsAt es i → are_values (declared_in es) vs ≡ true → i < length vs
   within-at [] i vs at kept = absurd at
   within-at (e ∷ es) i [] at kept = absurd (false≢true kept)
   within-at (e ∷ es) zero (v ∷ vs) at kept = omega arith
   within-at (e ∷ es) (suc i) (v ∷ vs) at kept = let rest = within-at es i vs at.1 (and_parts (allows e.1 v) _ kept).1 in omega arith
 
   -- the value at the place is that of the variable
-  pub value_of-at : (es : List (String Y × Bounds)) (i : ℕ) (vs : List ℕ) → IsAt es i → are_values (declarations es) vs ≡ true → value_of name (named (declarations es) vs) ≡ slice_get vs i
+  pub value_of-at : (es : List (String Y × Bounds)) (i : ℕ) (vs : List ℕ) → IsAt es i → are_values (declared_in es) vs ≡ true → value_of name (named (declared_in es) vs) ≡ slice_get vs i
   value_of-at [] i vs at kept = absurd at
   value_of-at (e ∷ es) i [] at kept = absurd (false≢true kept)
   value_of-at (e ∷ es) zero (v ∷ vs) at kept = rw at refl
   value_of-at (e ∷ es) (suc i) (v ∷ vs) at kept = rw at.0 (value_of-at es i vs at.1 (and_parts (allows e.1 v) _ kept).1)
 
   -- and is within the bounds
-  pub allowed-at : (es : List (String Y × Bounds)) (i : ℕ) (vs : List ℕ) → IsAt es i → are_values (declarations es) vs ≡ true
-      → IfSome (slice_get vs i) (λ v. IfSome (bounds_of name (declarations es)) (λ b. allows b v ≡ true))
+  pub allowed-at : (es : List (String Y × Bounds)) (i : ℕ) (vs : List ℕ) → IsAt es i → are_values (declared_in es) vs ≡ true
+      → IfSome (slice_get vs i) (λ v. IfSome (bounds_of name (declared_in es)) (λ b. allows b v ≡ true))
   allowed-at [] i vs at kept = absurd at
   allowed-at (e ∷ es) i [] at kept = absurd (false≢true kept)
   allowed-at (e ∷ es) zero (v ∷ vs) at kept = rw at ((and_parts (allows e.1 v) _ kept).0)
   allowed-at (e ∷ es) (suc i) (v ∷ vs) at kept = rw at.0 (allowed-at es i vs at.1 (and_parts (allows e.1 v) _ kept).1)
 
   -- the value of the variable changes where that at its place does
-  pub with_value-at : (value : ℕ) (es : List (String Y × Bounds)) (i : ℕ) (vs : List ℕ) → IsAt es i → are_values (declarations es) vs ≡ true
-      → named (declarations es) (slice_set vs i value) ≡ with_value name value (named (declarations es) vs)
+  pub with_value-at : (value : ℕ) (es : List (String Y × Bounds)) (i : ℕ) (vs : List ℕ) → IsAt es i → are_values (declared_in es) vs ≡ true
+      → named (declared_in es) (slice_set vs i value) ≡ with_value name value (named (declared_in es) vs)
   with_value-at value [] i vs at kept = absurd at
   with_value-at value (e ∷ es) i [] at kept = absurd (false≢true kept)
   with_value-at value (e ∷ es) zero (v ∷ vs) at kept = rw at refl
@@ -66,14 +67,14 @@ module _ {Y : Type 0} (name : List ℕ) where
       rw at.0 (ap (λ rest. record { name = string_bytes e.0; value = v } ∷ rest) (with_value-at value es i vs at.1 (and_parts (allows e.1 v) _ kept).1))
 
   -- a value that the bounds allow may stand there
-  pub are_values-at : (value : ℕ) (b : Bounds) (es : List (String Y × Bounds)) (i : ℕ) (vs : List ℕ) → IsAt es i → bounds_of name (declarations es) ≡ Some b → allows b value ≡ true
-      → are_values (declarations es) vs ≡ true → are_values (declarations es) (slice_set vs i value) ≡ true
+  pub are_values-at : (value : ℕ) (b : Bounds) (es : List (String Y × Bounds)) (i : ℕ) (vs : List ℕ) → IsAt es i → bounds_of name (declared_in es) ≡ Some b → allows b value ≡ true
+      → are_values (declared_in es) vs ≡ true → are_values (declared_in es) (slice_set vs i value) ≡ true
   are_values-at value b [] i vs at bounds allowed kept = absurd at
   are_values-at value b (e ∷ es) i [] at bounds allowed kept = absurd (false≢true kept)
   are_values-at value b (e ∷ es) zero (v ∷ vs) at bounds allowed kept =
       let found : Some e.1 ≡ Some b = rw at at bounds in
       let own : e.1 ≡ b = cc in
-      (λ j. allows (own j) value && are_values (declarations es) vs) ∙ rw allowed ((and_parts (allows e.1 v) _ kept).1)
+      (λ j. allows (own j) value && are_values (declared_in es) vs) ∙ rw allowed ((and_parts (allows e.1 v) _ kept).1)
   are_values-at value b (e ∷ es) (suc i) (v ∷ vs) at bounds allowed kept =
       let parts = and_parts (allows e.1 v) _ kept in
       rw parts.0 (are_values-at value b es i vs at.1 (rw at.0 at bounds) allowed parts.1)

@@ -1,84 +1,85 @@
-ghost use Rattle.std.specs.Prelude.{◌≡◌, ℕ, ◌<◌, ◌≤◌, [], length, Some, None, OnOk, OnErr};
+ghost use Rattle.std.specs.Prelude.{◌≡◌, ◌<◌, ◌≤◌, [], ◌∷◌, ◌++◌, length, take, vec_len, Some, None, OnOk};
 ghost use Rattle.std.specs.Option.{ForSome};
-ghost use Rattle.vn_types.specs.PerStack.{ChangesOnly};
-ghost use Rattle.vn_store.specs.Rows.{row, count_of, value_at, with_value_at, cut, grown};
+ghost use Rattle.vn_store.specs.Rows.{count_of, value_at, with_value_at, cut, grown};
 
-use crate::row::Row;
 use std::alloc::Global;
 use std::marker::Model;
-use vn_types::{NoMemory, Sid, make_room};
+use vn_types::{Empty, NoMemory};
 
-/// The values of all stacks, seen as a list of rows by their numbers.
+/// The values of one stack, in the order of the variables, where it has an instance.
 #[derive(Drop)]
 pub(crate) struct Values {
-    rows: Vec<Row>,
+    values: Option<Vec<u64>>,
 }
 
 impl Model for Values {
-    ghost use Rattle.std.specs.Prelude.{List, ℕ, Option};
+    ghost use Rattle.std.specs.Prelude.{List, ℕ, Option, option_map};
 
-    ghost Value = { List (Option (List ℕ)) };
+    ghost Value = { Option (List ℕ) };
 
-    ghost view = { λ a. a.rows.items };
+    ghost view = { λ a. option_map (λ v. v.items) a.values };
+}
+
+impl Empty for Values {
+    ghost empty = { None };
+
+    fn empty(_alloc: Global) -> Values {
+        Values { values: None }
+    }
 }
 
 impl Values {
-    pub fn new(alloc: Global) -> Values
-        ensures { result ≡ [] }
+    pub(crate) fn start(&mut self, values: Vec<u64>)
+        ensures { self.new ≡ Some values.items }
     {
-        Values {
-            rows: Vec::new(alloc),
+        self.values = Some(values);
+    }
+
+    pub(crate) fn stop(&mut self)
+        ensures { self.new ≡ None }
+    {
+        self.values = None;
+    }
+
+    pub(crate) fn get(&self, place: usize) -> u64
+        requires { place < count_of self.now }
+        ensures { value_at place self.now ≡ Some result }
+    {
+        match &self.values {
+            Some(values) => values[place],
+            None => unreachable!(),
         }
     }
 
-    pub fn start(&mut self, sid: Sid, values: Vec<u64>) -> Result<(), NoMemory>
-        ensures started { OnOk result (row self.new sid.0 ≡ Some values.items) }
-        ensures kept { OnErr result (row self.new sid.0 ≡ row self.old sid.0) }
-        ensures others { ChangesOnly sid.0 (row self.old) (row self.new) }
+    pub(crate) fn set(&mut self, place: usize, value: u64)
+        requires { place < count_of self.old }
+        ensures { self.new ≡ with_value_at place value self.old }
     {
-        let alloc = *self.rows.allocator();
-        if make_room(alloc, &mut self.rows, sid.0).is_err() {
-            return Err(NoMemory);
-        }
-        self.rows[sid.0 as usize].start(values);
-        Ok(())
-    }
-
-    pub fn stop(&mut self, sid: Sid)
-        ensures stopped { row self.new sid.0 ≡ None }
-        ensures others { ChangesOnly sid.0 (row self.old) (row self.new) }
-    {
-        if let Some(row) = self.rows.get_mut(sid.0 as usize) {
-            row.stop();
+        match &mut self.values {
+            Some(values) => values[place] = value,
+            None => unreachable!(),
         }
     }
 
-    pub fn get(&self, sid: Sid, place: usize) -> u64
-        requires { place < count_of (row self.now sid.0) }
-        ensures { value_at place (row self.now sid.0) ≡ Some result }
+    /// Puts a value behind the first so many, and drops those that stood behind them.
+    pub(crate) fn give(&mut self, count: usize, value: u64) -> Result<(), NoMemory>
+        requires { ForSome self.old (λ values. count ≤ length values) }
+        ensures given { OnOk result (self.new ≡ grown count value self.old) }
+        ensures first { cut count self.new ≡ cut count self.old }
     {
-        self.rows[sid.0 as usize].get(place)
-    }
-
-    pub fn set(&mut self, sid: Sid, place: usize, value: u64)
-        requires { place < count_of (row self.old sid.0) }
-        ensures set { row self.new sid.0 ≡ with_value_at place value (row self.old sid.0) }
-        ensures others { ChangesOnly sid.0 (row self.old) (row self.new) }
-    {
-        self.rows[sid.0 as usize].set(place, value);
-    }
-
-    /// Puts a value behind the first so many of each row.
-    pub fn give(&mut self, count: usize, value: u64) -> Result<(), NoMemory>
-        requires { (q : ℕ) → ForSome (row self.old q) (λ values. count ≤ length values) }
-        ensures given { OnOk result ((q : ℕ) → row self.new q ≡ grown count value (row self.old q)) }
-        ensures first { (q : ℕ) → cut count (row self.new q) ≡ cut count (row self.old q) }
-    {
-        for sid in 0..self.rows.len() {
-            let Ok(()) = self.rows[sid].give(count, value) else {
-                return Err(NoMemory);
-            };
+        match &mut self.values {
+            Some(values) => give_one(values, count, value),
+            None => Ok(()),
         }
-        Ok(())
     }
+}
+
+fn give_one(values: &mut Vec<u64>, count: usize, value: u64) -> Result<(), NoMemory>
+    requires { count ≤ vec_len values.old }
+    ensures given { OnOk result (values.new.items ≡ take count values.old.items ++ value ∷ []) }
+    ensures first { take count values.new.items ≡ take count values.old.items }
+{
+    values.truncate(count);
+    values.push(value)?;
+    Ok(())
 }

@@ -1,8 +1,9 @@
 use Rattle.std.proofs.Common.{◌≡◌, [], ◌++◌, map, rules, sym, ap, ◌∙◌}
 use Rattle.std.specs.Map.{values_of}
 use Rattle.std.proofs.lemmas.Result.{on_ok_weaker, on_err_weaker}
-use Rattle.vn_store.specs.declared.bounds.Bounds.{Bounds}
-use Rattle.vn_store.specs.Variables.{Declaration, declarations, is_row}
+use Rattle.vn_rules.specs.declared.variable.Bounds.{Bounds}
+use Rattle.vn_rules.specs.Variables.{Declaration}
+use Rattle.vn_store.specs.Variables.{declared_in, is_row}
 use Rattle.vn_store.proofs.Registers.{either, all_values, first_values_of, first_row, of-started, of-others, sound-others, unchanged-row}
 use Rattle.vn_store.proofs.registry.Registry.instance.Goals as goal
 
@@ -20,8 +21,8 @@ invariant_of-self c =
     all_values c.self.inside.declared.entries c.loop-bounds.values.items c.loop-bounds.bounds-iterator none
     (c.loop-bounds.invariant ∙ ap (λ h. map (λ (d : Declaration). d.1.initial) h.declared) (sym c.self.view_is)) in
     sound-others c.self.inside.declared.entries c.args.sid.0 c.self.inside.values c.start.new.self c.start.ensures.others c.self.invariant
-    (either c.start.result (λ is. ap (is_row (declarations c.self.inside.declared.entries)) is ∙ first_row c.self.inside.declared.entries c.args.sid.0 c.loop-bounds.values.items first c.self.invariant.0)
-    (λ is. ap (is_row (declarations c.self.inside.declared.entries)) is ∙ c.self.invariant.1 c.args.sid.0) c.start.ensures.started c.start.ensures.kept)
+    (either c.start.result (λ is. ap (is_row (declared_in c.self.inside.declared.entries)) is ∙ first_row c.self.inside.declared.entries c.args.sid.0 c.loop-bounds.values.items first c.self.invariant.0)
+    (λ is. ap (is_row (declared_in c.self.inside.declared.entries)) is ∙ c.self.invariant.1 c.args.sid.0) c.start.ensures.started c.start.ensures.kept)
 
 pub returns-clause-started : goal.returns-clause-started
 returns-clause-started c =

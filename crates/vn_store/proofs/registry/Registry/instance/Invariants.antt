@@ -1,6 +1,6 @@
 use Rattle.std.proofs.Common.{◌≡◌, ◌++◌, map}
-use Rattle.vn_store.specs.declared.bounds.Bounds.{Bounds}
-use Rattle.vn_store.specs.Variables.{Declaration}
+use Rattle.vn_rules.specs.declared.variable.Bounds.{Bounds}
+use Rattle.vn_rules.specs.Variables.{Declaration}
 use Rattle.vn_store.proofs.registry.Registry.instance.Given as goal
 
 -- the initial values so far and those to come
