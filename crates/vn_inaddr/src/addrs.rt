@@ -1,20 +1,20 @@
-ghost use Rattle.std.specs.Prelude.{◌≡◌, ℕ, ◌≤◌, [], Some, None, OnOk, OnErr, IfOk, IfSome, MatchResult};
+ghost use Rattle.std.specs.Prelude.{◌≡◌, ℕ, ◌≤◌, [], Some, None, OnOk, OnErr, IfOk, IfSome};
 ghost use Rattle.vn_types.specs.PerStack.{ChangesOnly};
+ghost use Rattle.vn_types.specs.Refusals.{IsRefusedBy};
 ghost use Rattle.vn_types.specs.Interfaces.{half_id_eq};
 ghost use Rattle.vn_rules.specs.Addresses.{local, add_refusal, after_add, broadcast, address_at, on_interface, remove_answer, after_remove, after_purge, source_for, first};
 ghost use Rattle.vn_inaddr.specs.Stacks.{of};
 
-use crate::fit::is_unfit;
-use crate::row::Row;
+use crate::addresses::Addresses;
 use std::alloc::Global;
 use std::marker::Model;
 use vn_rules::Addr;
-use vn_types::{Errno, If, Ip4, NoMemory, Reply, Sid, make_room};
+use vn_types::{Errno, If, Ip4, NoMemory, PerStack, Reply, Sid};
 
 /// The addresses of all stacks, seen as a list of stacks by their numbers. Only `add` takes memory.
 #[derive(Drop)]
 pub struct Addrs {
-    rows: Vec<Row>,
+    stacks: PerStack<Addresses>,
 }
 
 impl Model for Addrs {
@@ -24,7 +24,7 @@ impl Model for Addrs {
 
     ghost Value = { List (List (AddrOf HalfId)) };
 
-    ghost view = { λ a. a.rows.items };
+    ghost view = { λ a. a.stacks };
 }
 
 impl Addrs {
@@ -33,34 +33,29 @@ impl Addrs {
         ensures { IfOk result (λ addrs. (q : ℕ) → of addrs q ≡ []) }
     {
         Ok(Addrs {
-            rows: Vec::new(alloc),
+            stacks: PerStack::new(alloc),
         })
     }
 
     /// Adds an address to an interface of a stack, behind those that the stack has (ifconfig(8), `alias`).
     pub fn add(&mut self, sid: Sid, addr: Addr) -> Reply<()>
         requires { addr.len ≤ 32 }
-        ensures answer { IfOk result (λ answer. MatchResult answer (λ _. add_refusal addr (of self.old sid.0) ≡ None) (λ errno. add_refusal addr (of self.old sid.0) ≡ Some errno)) }
-        ensures added { IfOk result (λ answer. OnOk answer (of self.new sid.0 ≡ after_add addr (of self.old sid.0))) }
-        ensures refused { IfOk result (λ answer. OnErr answer (of self.new sid.0 ≡ of self.old sid.0)) }
+        ensures answer { IfOk result (IsRefusedBy (add_refusal addr (of self.old sid.0))) }
+        ensures added { IfOk result (λ answer. OnOk answer (of self.new sid.0
+            ≡ after_add addr (of self.old sid.0))) }
+        ensures refused { IfOk result
+            (λ answer. OnErr answer (of self.new sid.0 ≡ of self.old sid.0)) }
         ensures no_memory { OnErr result (of self.new sid.0 ≡ of self.old sid.0) }
         ensures others { ChangesOnly sid.0 (of self.old) (of self.new) }
     {
-        if is_unfit(addr) {
+        if addr.is_unfit() {
             return Ok(Err(Errno::Inval));
         }
         if self.local(sid, addr.ip) {
             return Ok(Err(Errno::Exist));
         }
-        let alloc = *self.rows.allocator();
-        if make_room(alloc, &mut self.rows, sid.0).is_err() {
-            return Err(NoMemory);
-        }
-        let row = &mut self.rows[sid.0 as usize];
-        match row.add(addr) {
-            Ok(()) => Ok(Ok(())),
-            Err(error) => Err(error),
-        }
+        self.stacks.at_or_new(sid)?.add(addr)?;
+        Ok(Ok(()))
     }
 
     /// Removes an address from an interface of a stack, and answers it (ifconfig(8), `-alias`).
@@ -70,8 +65,8 @@ impl Addrs {
         ensures length { IfOk result (λ addr. addr.len ≤ 32) }
         ensures others { ChangesOnly sid.0 (of self.old) (of self.new) }
     {
-        match self.rows.get_mut(sid.0 as usize) {
-            Some(row) => row.remove(on, ip),
+        match self.stacks.at_mut(sid) {
+            Some(addresses) => addresses.remove(on, ip),
             None => Err(Errno::AddrNotAvail),
         }
     }
@@ -80,8 +75,8 @@ impl Addrs {
     pub fn local(&self, sid: Sid, ip: Ip4) -> bool
         ensures { result ≡ local ip (of self.now sid.0) }
     {
-        match self.rows.get(sid.0 as usize) {
-            Some(row) => row.local(ip),
+        match self.stacks.at(sid) {
+            Some(addresses) => addresses.local(ip),
             None => false,
         }
     }
@@ -90,8 +85,8 @@ impl Addrs {
     pub fn on_interface(&self, sid: Sid, on: If, ip: Ip4) -> bool
         ensures { result ≡ on_interface half_id_eq on ip (of self.now sid.0) }
     {
-        match self.rows.get(sid.0 as usize) {
-            Some(row) => row.on_interface(on, ip),
+        match self.stacks.at(sid) {
+            Some(addresses) => addresses.on_interface(on, ip),
             None => false,
         }
     }
@@ -101,8 +96,8 @@ impl Addrs {
     pub fn broadcast(&self, sid: Sid, ip: Ip4) -> bool
         ensures { result ≡ broadcast ip (of self.now sid.0) }
     {
-        match self.rows.get(sid.0 as usize) {
-            Some(row) => row.broadcast(ip),
+        match self.stacks.at(sid) {
+            Some(addresses) => addresses.broadcast(ip),
             None => false,
         }
     }
@@ -111,16 +106,14 @@ impl Addrs {
     pub fn source_for(&self, sid: Sid, on: If, hop: Ip4) -> Option<Ip4>
         ensures { result ≡ source_for half_id_eq on hop (of self.now sid.0) }
     {
-        let row = self.rows.get(sid.0 as usize)?;
-        row.source_for(on, hop)
+        self.stacks.at(sid)?.source_for(on, hop)
     }
 
     /// The first address of an interface.
     pub fn first(&self, sid: Sid, on: If) -> Option<Ip4>
         ensures { result ≡ first half_id_eq on (of self.now sid.0) }
     {
-        let row = self.rows.get(sid.0 as usize)?;
-        row.first(on)
+        self.stacks.at(sid)?.first(on)
     }
 
     /// Removes all addresses of an interface from a stack.
@@ -128,8 +121,8 @@ impl Addrs {
         ensures purged { of self.new sid.0 ≡ after_purge half_id_eq on (of self.old sid.0) }
         ensures others { ChangesOnly sid.0 (of self.old) (of self.new) }
     {
-        if let Some(row) = self.rows.get_mut(sid.0 as usize) {
-            row.purge(on);
+        if let Some(addresses) = self.stacks.at_mut(sid) {
+            addresses.purge(on);
         }
     }
 
@@ -138,7 +131,6 @@ impl Addrs {
         ensures at { result ≡ address_at place (of self.now sid.0) }
         ensures length { IfSome result (λ addr. addr.len ≤ 32) }
     {
-        let row = self.rows.get(sid.0 as usize)?;
-        row.at(place)
+        self.stacks.at(sid)?.at(place)
     }
 }

@@ -3,7 +3,7 @@ use Rattle.std.proofs.lemmas.Iterator.{YieldsList-from_slice}
 use Rattle.std.proofs.lemmas.Iterator.Search.{find_from_yields_List}
 use Rattle.vn_types.specs.Interfaces.{half_id_eq}
 use Rattle.vn_rules.specs.Addresses.{is_at}
-use Rattle.vn_inaddr.proofs.row.Row.address_of.Goals as goal
+use Rattle.vn_inaddr.proofs.addresses.Addresses.address_of.Goals as goal
 
 pub returns-clause-found : goal.returns-clause-found
 returns-clause-found c =

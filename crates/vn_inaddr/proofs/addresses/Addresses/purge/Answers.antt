@@ -3,7 +3,7 @@ use Rattle.std.proofs.lemmas.Fn.{filter_same}
 use Rattle.vn_types.specs.Interfaces.{half_id_eq, if_same}
 use Rattle.vn_rules.specs.Addresses.{after_purge}
 use Rattle.vn_inaddr.proofs.Lengths.{bounded-filter}
-use Rattle.vn_inaddr.proofs.row.Row.purge.Goals as goal
+use Rattle.vn_inaddr.proofs.addresses.Addresses.purge.Goals as goal
 
 pub invariant_of-self : goal.invariant_of-self
 invariant_of-self c =

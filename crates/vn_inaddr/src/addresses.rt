@@ -2,7 +2,6 @@ ghost use Rattle.std.specs.Prelude.{◌≡◌, ◌≤◌, [], OnOk, OnErr, IfOk,
 ghost use Rattle.vn_types.specs.Interfaces.{half_id_eq};
 ghost use Rattle.vn_rules.specs.Addresses.{local, after_add, broadcast, address_at, on_interface, address_of, remove_answer, after_remove, after_purge, source_for, first};
 
-use crate::fit::{is_at, is_broadcast_of, is_same, reaches};
 use std::alloc::Global;
 use std::marker::Model;
 use vn_rules::Addr;
@@ -10,46 +9,44 @@ use vn_types::{Empty, Errno, If, Ip4, NoMemory};
 
 /// The addresses of one stack, in order of adding.
 #[derive(Drop)]
-pub(crate) struct Row {
-    addresses: Vec<Addr>,
+pub(crate) struct Addresses {
+    items: Vec<Addr>,
 }
 
-impl Model for Row {
+impl Model for Addresses {
     ghost use Rattle.std.specs.Prelude.{◌≤◌, List, All};
     ghost use Rattle.vn_types.specs.declared.interface.HalfId.{HalfId};
     ghost use Rattle.vn_rules.specs.declared.address.AddrOf.{AddrOf};
 
     ghost Value = { List (AddrOf HalfId) };
 
-    ghost view = { λ a. a.addresses.items };
+    ghost view = { λ a. a.items.items };
 
     // Only lengths of networks stand.
-    ghost invariant = { λ a. All (λ (addr : AddrOf HalfId). addr.len ≤ 32) a.addresses.items };
+    ghost invariant = { λ a. All (λ (addr : AddrOf HalfId). addr.len ≤ 32) a.items.items };
 }
 
-impl Empty for Row {
+impl Empty for Addresses {
     ghost empty = { [] };
 
-    fn empty(alloc: Global) -> Row {
-        Row {
-            addresses: Vec::new(alloc),
+    fn empty(alloc: Global) -> Addresses {
+        Addresses {
+            items: Vec::new(alloc),
         }
     }
 }
 
-impl Row {
-    pub fn add(&mut self, addr: Addr) -> Result<(), NoMemory>
+impl Addresses {
+    pub(crate) fn add(&mut self, addr: Addr) -> Result<(), NoMemory>
         requires { addr.len ≤ 32 }
         ensures added { OnOk result (self.new ≡ after_add addr self.old) }
         ensures kept { OnErr result (self.new ≡ self.old) }
     {
-        if self.addresses.push(addr).is_err() {
-            return Err(NoMemory);
-        }
+        self.items.push(addr)?;
         Ok(())
     }
 
-    pub fn remove(&mut self, on: If, ip: Ip4) -> Result<Addr, Errno>
+    pub(crate) fn remove(&mut self, on: If, ip: Ip4) -> Result<Addr, Errno>
         ensures answer { result ≡ remove_answer half_id_eq on ip self.old }
         ensures after { self.new ≡ after_remove half_id_eq on ip self.old }
         ensures length { IfOk result (λ addr. addr.len ≤ 32) }
@@ -57,7 +54,7 @@ impl Row {
         let Some(addr) = self.address_of(on, ip) else {
             return Err(Errno::AddrNotAvail);
         };
-        self.addresses.retain(|other| !is_same(addr, *other));
+        self.items.retain(|other| !addr.is_same(*other));
         Ok(addr)
     }
 
@@ -65,54 +62,51 @@ impl Row {
         ensures found { result ≡ address_of half_id_eq on ip self.now }
         ensures length { IfSome result (λ addr. addr.len ≤ 32) }
     {
-        self.addresses
-            .iter()
-            .find(|addr| is_at(**addr, on, ip))
-            .copied()
+        self.items.iter().find(|addr| addr.is_at(on, ip)).copied()
     }
 
-    pub fn local(&self, ip: Ip4) -> bool
+    pub(crate) fn local(&self, ip: Ip4) -> bool
         ensures { result ≡ local ip self.now }
     {
-        self.addresses.iter().any(|addr| addr.ip.0 == ip.0)
+        self.items.iter().any(|addr| addr.has_ip(ip))
     }
 
-    pub fn on_interface(&self, on: If, ip: Ip4) -> bool
+    pub(crate) fn on_interface(&self, on: If, ip: Ip4) -> bool
         ensures { result ≡ on_interface half_id_eq on ip self.now }
     {
-        self.addresses.iter().any(|addr| is_at(*addr, on, ip))
+        self.items.iter().any(|addr| addr.is_at(on, ip))
     }
 
-    pub fn broadcast(&self, ip: Ip4) -> bool
+    pub(crate) fn broadcast(&self, ip: Ip4) -> bool
         ensures { result ≡ broadcast ip self.now }
     {
-        self.addresses.iter().any(|addr| is_broadcast_of(ip, *addr))
+        self.items.iter().any(|addr| addr.is_broadcast_of(ip))
     }
 
-    pub fn source_for(&self, on: If, hop: Ip4) -> Option<Ip4>
+    pub(crate) fn source_for(&self, on: If, hop: Ip4) -> Option<Ip4>
         ensures { result ≡ source_for half_id_eq on hop self.now }
     {
-        let addr = self.addresses.iter().find(|addr| reaches(**addr, on, hop))?;
+        let addr = self.items.iter().find(|addr| addr.reaches(on, hop))?;
         Some(addr.ip)
     }
 
-    pub fn first(&self, on: If) -> Option<Ip4>
+    pub(crate) fn first(&self, on: If) -> Option<Ip4>
         ensures { result ≡ first half_id_eq on self.now }
     {
-        let addr = self.addresses.iter().find(|addr| addr.is_on(on))?;
+        let addr = self.items.iter().find(|addr| addr.is_on(on))?;
         Some(addr.ip)
     }
 
-    pub fn purge(&mut self, on: If)
+    pub(crate) fn purge(&mut self, on: If)
         ensures { self.new ≡ after_purge half_id_eq on self.old }
     {
-        self.addresses.retain(|addr| !addr.is_on(on));
+        self.items.retain(|addr| !addr.is_on(on));
     }
 
-    pub fn at(&self, place: u64) -> Option<Addr>
+    pub(crate) fn at(&self, place: u64) -> Option<Addr>
         ensures at { result ≡ address_at place self.now }
         ensures length { IfSome result (λ addr. addr.len ≤ 32) }
     {
-        self.addresses.get(place as usize).copied()
+        self.items.get(place as usize).copied()
     }
 }
