@@ -2,14 +2,13 @@
 use Rattle.std.proofs.Common.{◌≡◌, ℕ, ◌+◌, ◌<◌, ◌≤◌, Bool, false, ◌==◌, List, [], ◌∷◌, Option, Some, None, refl, sym, ap, ◌∙◌, arith}
 use Rattle.std.specs.List.{All, AllByRecursion, list_any, filter, slice_get}
 use Rattle.std.specs.Option.{IfSome, option_map}
-use Rattle.std.specs.Ordering.{match_ordering, is_gt}
-use Rattle.std.specs.declared.cmp.Ordering.{Ordering}
-use Rattle.std.specs.declared.cmp.Ordering.TheVariants.{Less, Equal, Greater}
+use Rattle.std.specs.Ordering.{is_gt}
 use Rattle.std.specs.Map.{keys_of, remove_entry}
 use Rattle.std.specs.BTreeMap.{insert_entry, is_at}
 use Rattle.std.specs.BTreeMap.Range.{IsLeBy, IsLtBy}
 use Rattle.std.proofs.lemmas.Bool.{ne_eqb}
 use Rattle.std.proofs.lemmas.List.Elements.{All-from_recursion, recursion_from_All, All-weaker, All-tail, All-rest, All-filter}
+use Rattle.vn_types.proofs.EntryLaws.{all-insert_entry}
 use Rattle.vn_rules.specs.declared.timer.TimerOf.{TimerOf}
 use Rattle.vn_rules.specs.declared.timer.TimersOf.{TimersOf}
 use Rattle.vn_rules.specs.Timers.{Turn, turn_cmp, Timed, earliest, is_due, next_due, due, after_due, without_timed, soonest}
@@ -26,19 +25,10 @@ module _ {N : Type 0} where
   pub number-unused : (n : ℕ) (es : List (Timed N)) → All (λ (e : Timed N). e.0.1 < n) es → list_any (λ (e : Timed N). e.0.1 == n) es ≡ false
   number-unused n es below = no_number n es (recursion_from_All _ es below)
 
-  inserted : (P : Turn → Type 0) (at : Turn) (what : TimerOf N) → P at → (es : List (Timed N)) → AllByRecursion (λ (e : Timed N). P e.0) es → AllByRecursion (λ (e : Timed N). P e.0) (insert_entry turn_cmp es at what)
-  inserted P at what here [] all = (here, tt)
-  inserted P at what here (e ∷ es) all = by (turn_cmp at e.0) (inserted P at what here es all.1)
-    where
-      by : (o : Ordering) → AllByRecursion (λ (e : Timed N). P e.0) (insert_entry turn_cmp es at what) → AllByRecursion (λ (e : Timed N). P e.0) (match_ordering o ((at, what) ∷ e ∷ es) ((e.0, what) ∷ es) (e ∷ insert_entry turn_cmp es at what))
-      by Less more = (here, all)
-      by Equal more = all
-      by Greater more = (all.0, more)
-
   -- after an entry with the next number was inserted
   pub numbered-insert_entry : (deadline n : ℕ) (what : TimerOf N) (es : List (Timed N)) → All (λ (e : Timed N). e.0.1 < n) es → All (λ (e : Timed N). e.0.1 < n + 1) (insert_entry turn_cmp es (deadline, n) what)
   numbered-insert_entry deadline n what es below =
-      All-from_recursion _ _ (inserted (λ at. at.1 < n + 1) (deadline, n) what (omega arith) es
+      All-from_recursion _ _ (all-insert_entry turn_cmp (λ at. at.1 < n + 1) (deadline, n) what es (omega arith)
       (recursion_from_All _ es (All-weaker (λ (e : Timed N). e.0.1 < n) (λ (e : Timed N). e.0.1 < n + 1) (λ e less. omega arith) es below)))
 
   -- after entries were taken out

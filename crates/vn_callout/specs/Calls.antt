@@ -28,6 +28,7 @@ after_own (StopOfStack sid) t = no_timers
 after_own (Due sid now) t = after_due now t
 after_own NextDeadline t = t
 
+-- whether it is the stack that a call names
 abbrev pub is_stack : ℕ → Option ℕ → Bool
 is_stack q None = false
 is_stack q (Some sid) = q == sid
@@ -48,7 +49,8 @@ reply s d NextDeadline = Deadline d
 -- what the calls answer in turn, where no stack but the listed ones has timers
 abbrev pub replies_from : List ℕ → (ℕ → TimersOf HalfId) → List Call → List Reply
 replies_from stacks s [] = []
-replies_from stacks s (c ∷ cs) = reply s (least (map s stacks)) c ∷ replies_from stacks (after_call c s) cs
+replies_from stacks s (c ∷ cs) =
+    reply s (least (map s stacks)) c ∷ replies_from stacks (after_call c s) cs
 
 -- what the calls answer, where no stack has a timer before them
 abbrev pub replies_of : List Call → List Reply

@@ -54,17 +54,11 @@ pub enum Reply {
 pub fn replies(alloc: Global, calls: &[Call]) -> Result<List<Reply>, NoMemory>
     ensures { IfOk result (λ answers. answers ≡ replies_of calls.now) }
 {
-    let Ok(mut wheel) = Wheel::new(alloc) else {
-        return Err(NoMemory);
-    };
+    let mut wheel = Wheel::new(alloc)?;
     let mut answers = List::new(alloc);
     for call in calls {
-        let Ok(answer) = perform(&mut wheel, *call) else {
-            return Err(NoMemory);
-        };
-        let Ok(()) = answers.push(answer) else {
-            return Err(NoMemory);
-        };
+        let answer = perform(&mut wheel, *call)?;
+        answers.push(answer)?;
     }
     Ok(answers)
 }
@@ -79,10 +73,7 @@ fn perform(wheel: &mut Wheel, call: Call) -> Result<Reply, NoMemory>
             sid,
             deadline,
             what,
-        } => match wheel.arm(sid, deadline, what) {
-            Ok(number) => Ok(Reply::Number(number)),
-            Err(error) => Err(error),
-        },
+        } => Ok(Reply::Number(wheel.arm(sid, deadline, what)?)),
         Call::Stop { sid, arm } => Ok(Reply::Stood(wheel.stop(sid, arm))),
         Call::StopOfInterface { sid, half } => {
             wheel.stop_of_interface(sid, half);

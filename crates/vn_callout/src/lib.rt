@@ -2,7 +2,7 @@
 #![tactic(auto)]
 
 mod calls;
-mod row;
+mod timers;
 mod wheel;
 
 pub use calls::{Call, Reply, replies};

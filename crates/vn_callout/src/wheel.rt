@@ -4,17 +4,17 @@ ghost use Rattle.vn_types.specs.Interfaces.{half_id_eq};
 ghost use Rattle.vn_rules.specs.Timers.{no_timers, after_arm, has_timer, without_timer, times_without, due, after_due, IsFirstDue, lesser, least};
 ghost use Rattle.vn_callout.specs.Stacks.{of};
 
-use crate::row::Row;
+use crate::timers::Timers;
 use std::alloc::Global;
 use std::marker::Model;
 use vn_rules::Timer;
-use vn_types::{HalfId, NoMemory, Sid, make_room};
+use vn_types::{HalfId, NoMemory, PerStack, Sid};
 
 /// The timers of all stacks, seen as a list of stacks by their numbers. Deadlines are in milliseconds.
 /// Only `new` and `arm` take memory.
 #[derive(Drop)]
 pub struct Wheel {
-    rows: Vec<Row>,
+    stacks: PerStack<Timers>,
 }
 
 impl Model for Wheel {
@@ -24,7 +24,7 @@ impl Model for Wheel {
 
     ghost Value = { List (TimersOf HalfId) };
 
-    ghost view = { λ a. a.rows.items };
+    ghost view = { λ a. a.stacks };
 }
 
 impl Wheel {
@@ -33,7 +33,7 @@ impl Wheel {
         ensures { IfOk result (λ w. (q : ℕ) → of w q ≡ no_timers) }
     {
         Ok(Wheel {
-            rows: Vec::new(alloc),
+            stacks: PerStack::new(alloc),
         })
     }
 
@@ -43,16 +43,12 @@ impl Wheel {
         requires { (of self.old sid.0).armed < 2 ^ 63 }
         ensures number { IfOk result (λ n. n ≡ (of self.old sid.0).armed) }
         ensures unused { IfOk result (λ n. has_timer n (of self.old sid.0) ≡ false) }
-        ensures armed { OnOk result (of self.new sid.0 ≡ after_arm deadline what (of self.old sid.0)) }
+        ensures armed { OnOk result (of self.new sid.0
+            ≡ after_arm deadline what (of self.old sid.0)) }
         ensures kept { OnErr result (of self.new sid.0 ≡ of self.old sid.0) }
         ensures others { ChangesOnly sid.0 (of self.old) (of self.new) }
     {
-        let alloc = *self.rows.allocator();
-        if make_room(alloc, &mut self.rows, sid.0).is_err() {
-            return Err(NoMemory);
-        }
-        let row = &mut self.rows[sid.0 as usize];
-        row.arm(deadline, what)
+        self.stacks.at_or_new(sid)?.arm(deadline, what)
     }
 
     /// Stops the timer of a stack with an arm number, and tells whether it stood (callout_stop(9)).
@@ -61,8 +57,8 @@ impl Wheel {
         ensures stopped { of self.new sid.0 ≡ without_timer arm (of self.old sid.0) }
         ensures others { ChangesOnly sid.0 (of self.old) (of self.new) }
     {
-        match self.rows.get_mut(sid.0 as usize) {
-            Some(row) => row.stop(arm),
+        match self.stacks.at_mut(sid) {
+            Some(timers) => timers.stop(arm),
             None => false,
         }
     }
@@ -72,8 +68,8 @@ impl Wheel {
         ensures stopped { of self.new sid.0 ≡ times_without half_id_eq half (of self.old sid.0) }
         ensures others { ChangesOnly sid.0 (of self.old) (of self.new) }
     {
-        if let Some(row) = self.rows.get_mut(sid.0 as usize) {
-            row.stop_of_interface(half);
+        if let Some(timers) = self.stacks.at_mut(sid) {
+            timers.stop_of_interface(half);
         }
     }
 
@@ -82,8 +78,8 @@ impl Wheel {
         ensures stopped { of self.new sid.0 ≡ no_timers }
         ensures others { ChangesOnly sid.0 (of self.old) (of self.new) }
     {
-        if let Some(row) = self.rows.get_mut(sid.0 as usize) {
-            row.stop_all();
+        if let Some(timers) = self.stacks.at_mut(sid) {
+            timers.stop_all();
         }
     }
 
@@ -97,8 +93,7 @@ impl Wheel {
         ensures first { IfSome result (IsFirstDue now (of self.old sid.0)) }
         ensures none { IfNone result (All (λ e. now < e.0.0) (of self.old sid.0).standing) }
     {
-        let row = self.rows.get_mut(sid.0 as usize)?;
-        row.due(now)
+        self.stacks.at_mut(sid)?.due(now)
     }
 
     /// The least deadline of all stacks.
@@ -107,19 +102,20 @@ impl Wheel {
 
         // What `least` is, of the stacks at all numbers.
         ensures met { IfSome result (λ d. (q : ℕ) × Any (λ e. e.0.0 ≡ d) (of self.now q).standing) }
-        ensures bound { IfSome result (λ d. (q : ℕ) → All (λ e. d ≤ e.0.0) (of self.now q).standing) }
+        ensures bound { IfSome result (λ d. (q : ℕ) →
+            All (λ e. d ≤ e.0.0) (of self.now q).standing) }
         ensures none { IfNone result ((q : ℕ) → (of self.now q).standing ≡ []) }
     {
-        least_of(&self.rows)
+        least_of(self.stacks.rows())
     }
 }
 
-fn least_of(rows: &[Row]) -> Option<u64>
-    ensures { result ≡ least rows.now }
+fn least_of(stacks: &[Timers]) -> Option<u64>
+    ensures { result ≡ least stacks.now }
 {
     let mut soonest = None;
-    for row in rows {
-        soonest = lesser(soonest, row.soonest());
+    for timers in stacks {
+        soonest = lesser(soonest, timers.soonest());
     }
     soonest
 }

@@ -11,12 +11,12 @@ use vn_types::{Empty, HalfId, NoMemory};
 
 /// The timers of one stack, by deadline and then by arm number, and how many were armed so far.
 #[derive(Drop)]
-pub(crate) struct Row {
+pub(crate) struct Timers {
     armed: u64,
     standing: BTreeMap<(u64, u64), Timer>,
 }
 
-impl Model for Row {
+impl Model for Timers {
     ghost use Rattle.std.specs.Prelude.{◌<◌, All};
     ghost use Rattle.vn_types.specs.declared.interface.HalfId.{HalfId};
     ghost use Rattle.vn_rules.specs.declared.timer.TimersOf.{TimersOf};
@@ -29,34 +29,33 @@ impl Model for Row {
     ghost invariant = { λ a. All (λ e. e.0.1 < a.armed) a.standing.entries };
 }
 
-impl Empty for Row {
+impl Empty for Timers {
     ghost empty = { no_timers };
 
-    fn empty(alloc: Global) -> Row {
-        Row {
+    fn empty(alloc: Global) -> Timers {
+        Timers {
             armed: 0,
             standing: BTreeMap::new(alloc),
         }
     }
 }
 
-impl Row {
-    pub fn arm(&mut self, deadline: u64, what: Timer) -> Result<u64, NoMemory>
+impl Timers {
+    pub(crate) fn arm(&mut self, deadline: u64, what: Timer) -> Result<u64, NoMemory>
         requires { self.old.armed < 2 ^ 63 }
-        ensures armed { IfOk result (λ n. (n ≡ self.old.armed) × (self.new ≡ after_arm deadline what self.old)) }
+        ensures armed { IfOk result (λ n. (n ≡ self.old.armed)
+            × (self.new ≡ after_arm deadline what self.old)) }
         ensures unused { has_timer self.old.armed self.old ≡ false }
         ensures kept { OnErr result (self.new ≡ self.old) }
     {
         let number = self.armed;
         let timer = numbered(what, number);
-        let Ok(_) = self.standing.insert((deadline, number), timer) else {
-            return Err(NoMemory);
-        };
+        self.standing.insert((deadline, number), timer)?;
         self.armed = number + 1;
         Ok(number)
     }
 
-    pub fn stop(&mut self, arm: u64) -> bool
+    pub(crate) fn stop(&mut self, arm: u64) -> bool
         ensures stood { result ≡ has_timer arm self.old }
         ensures stopped { self.new ≡ without_timer arm self.old }
     {
@@ -65,20 +64,20 @@ impl Row {
         stood
     }
 
-    pub fn stop_of_interface(&mut self, half: HalfId)
+    pub(crate) fn stop_of_interface(&mut self, half: HalfId)
         ensures { self.new ≡ times_without half_id_eq half self.old }
     {
         self.standing.retain(|_, what| !what.is_of(half));
     }
 
-    pub fn stop_all(&mut self)
+    pub(crate) fn stop_all(&mut self)
         ensures { self.new ≡ no_timers }
     {
         self.standing.clear();
         self.armed = 0;
     }
 
-    pub fn soonest(&self) -> Option<u64>
+    pub(crate) fn soonest(&self) -> Option<u64>
         ensures { result ≡ soonest self.now }
     {
         match self.standing.first_key_value() {
@@ -87,7 +86,7 @@ impl Row {
         }
     }
 
-    pub fn due(&mut self, now: u64) -> Option<Timer>
+    pub(crate) fn due(&mut self, now: u64) -> Option<Timer>
         ensures due { result ≡ due now self.old }
         ensures taken { self.new ≡ after_due now self.old }
     {

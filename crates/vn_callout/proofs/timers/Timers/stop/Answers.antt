@@ -2,7 +2,7 @@ use Rattle.std.proofs.Common.{not, ◌==◌, rules, ap, ◌∙◌}
 use Rattle.std.proofs.lemmas.Map.Made.{filter_same_pairs}
 use Rattle.vn_rules.specs.Timers.{without_timer}
 use Rattle.vn_callout.proofs.Entries.{numbered-filter}
-use Rattle.vn_callout.proofs.row.Row.stop.Goals as goal
+use Rattle.vn_callout.proofs.timers.Timers.stop.Goals as goal
 
 pub invariant_of-self : goal.invariant_of-self
 invariant_of-self c =

@@ -1,6 +1,6 @@
 use Rattle.std.proofs.Common.{sym, ap, ◌∙◌}
 use Rattle.vn_callout.proofs.Entries.{numbered-rest, nothing-due, first-due}
-use Rattle.vn_callout.proofs.row.Row.due.Goals as goal
+use Rattle.vn_callout.proofs.timers.Timers.due.Goals as goal
 
 pub returns-in_err-deadline-clause-due : goal.returns-in_err-deadline-clause-due
 returns-in_err-deadline-clause-due c = c.from_residual.ensures ∙ sym (nothing-due c.args.now c.args.self.now _ c.in_err-deadline.ensures tt).0

@@ -4,7 +4,7 @@ use Rattle.vn_types.specs.Interfaces.{half_id_eq}
 use Rattle.vn_rules.specs.Interfaces.{is_timer_of}
 use Rattle.vn_rules.specs.Timers.{times_without}
 use Rattle.vn_callout.proofs.Entries.{numbered-filter}
-use Rattle.vn_callout.proofs.row.Row.stop_of_interface.Goals as goal
+use Rattle.vn_callout.proofs.timers.Timers.stop_of_interface.Goals as goal
 
 pub invariant_of-self : goal.invariant_of-self
 invariant_of-self c =
