@@ -2,9 +2,9 @@
 //! of its own.
 #![tactic(auto)]
 
+mod loopback;
 mod loops;
 mod queue;
-mod row;
 
 pub use loops::Loops;
 

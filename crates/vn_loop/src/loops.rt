@@ -1,18 +1,21 @@
-ghost use Rattle.std.specs.Prelude.{◌≡◌, ◌+◌, ◌++◌, ◌∷◌, ◌↔◌, ◌<◌, ◌≤◌, ◌^◌, ℕ, [], Some, None, IsSome, IsNone, OnOk, OnErr, IfOk, MatchResult, drop, find, length, slice_get};
+ghost use Rattle.std.specs.Prelude.{◌≡◌, ◌+◌, ◌++◌, ◌∷◌, ◌↔◌, ◌<◌, ◌≤◌, ◌^◌, if◌then◌else◌, ℕ, [], Some, None, IsSome, IsNone, OnOk, OnErr, IfOk, drop, find, length, slice_get};
 ghost use Rattle.vn_types.specs.PerStack.{ChangesOnly};
 ghost use Rattle.vn_types.specs.declared.interface.Sid.{Sid as StackNumber};
-ghost use Rattle.vn_loop.specs.Queues.{most, put_refusal, of, queue_of, is_busy, flag};
+ghost use Rattle.vn_types.specs.Refusals.{IsRefusedBy};
+ghost use Rattle.vn_rules.specs.declared.parts.TheConstants.{LOOPBACK_MAX};
+ghost use Rattle.vn_loop.specs.Queues.{put_refusal, of, queue_of, is_busy};
 
-use crate::row::Row;
+use crate::loopback::Loopback;
 use bytes::Bytes;
 use std::alloc::Global;
 use std::marker::Model;
-use vn_types::{Errno, NoMemory, Sid, make_room};
+use vn_types::{Errno, NoMemory, PerStack, Sid};
 
 /// The loopback queues of all stacks, seen as a list of stacks by their numbers. Only `make` takes memory.
 #[derive(Drop)]
 pub struct Loops {
-    rows: Vec<Row>,
+    alloc: Global,
+    stacks: PerStack<Loopback>,
     /// The number of stacks in which a datagram is queued.
     busy: usize,
 }
@@ -23,9 +26,9 @@ impl Model for Loops {
 
     ghost Value = { List (Option (List (List ℕ))) };
 
-    ghost view = { λ a. a.rows.items };
+    ghost view = { λ a. a.stacks };
 
-    ghost invariant = { λ a. a.busy ≡ count_by is_busy a.rows.items };
+    ghost invariant = { λ a. a.busy ≡ count_by is_busy a.stacks };
 }
 
 impl Loops {
@@ -34,7 +37,8 @@ impl Loops {
         ensures { IfOk result (λ loops. (q : ℕ) → of loops q ≡ None) }
     {
         Ok(Loops {
-            rows: Vec::new(alloc),
+            alloc,
+            stacks: PerStack::new(alloc),
             busy: 0,
         })
     }
@@ -46,12 +50,8 @@ impl Loops {
         ensures no_memory { OnErr result (of self.new sid.0 ≡ None) }
         ensures others { ChangesOnly sid.0 (of self.old) (of self.new) }
     {
-        let alloc = *self.rows.allocator();
-        if make_room(alloc, &mut self.rows, sid.0).is_err() {
-            return Err(NoMemory);
-        }
-        let row = &mut self.rows[sid.0 as usize];
-        row.make(alloc)
+        let loopback = self.stacks.at_or_new(sid)?;
+        loopback.make(self.alloc)
     }
 
     /// Takes the queue of a stack away, with the datagrams in it.
@@ -60,25 +60,25 @@ impl Loops {
         ensures removed { of self.new sid.0 ≡ None }
         ensures others { ChangesOnly sid.0 (of self.old) (of self.new) }
     {
-        let row = &mut self.rows[sid.0 as usize];
-        let was_busy = row.is_busy();
-        row.remove();
+        let loopback = self.stacks.at_mut(sid).unwrap();
+        let was_busy = loopback.is_busy();
+        loopback.remove();
         self.busy = counted(self.busy, was_busy, false);
     }
 
     /// Queues a datagram behind the others of a stack.
     pub fn put(&mut self, sid: Sid, datagram: Bytes) -> Result<(), Errno>
         requires { IsSome (of self.old sid.0) }
-        ensures answer { MatchResult result (λ _. put_refusal (queue_of self.old sid.0) ≡ None) (λ errno. put_refusal (queue_of self.old sid.0) ≡ Some errno) }
-        ensures queued { OnOk result (of self.new sid.0 ≡ Some (queue_of self.old sid.0 ++ datagram ∷ [])) }
+        ensures answer { IsRefusedBy (put_refusal (queue_of self.old sid.0)) result }
+        ensures queued { OnOk result (of self.new sid.0
+            ≡ Some (queue_of self.old sid.0 ++ datagram ∷ [])) }
         ensures refused { OnErr result (of self.new sid.0 ≡ of self.old sid.0) }
         ensures others { ChangesOnly sid.0 (of self.old) (of self.new) }
     {
-        let row = &mut self.rows[sid.0 as usize];
-        let was_busy = row.is_busy();
-        if let Err(errno) = row.put(datagram) {
-            return Err(errno);
-        }
+        prove!(self.busy <= self.stacks.rows().len());
+        let loopback = self.stacks.at_mut(sid).unwrap();
+        let was_busy = loopback.is_busy();
+        loopback.put(datagram)?;
         self.busy = counted(self.busy, was_busy, true);
         Ok(())
     }
@@ -91,19 +91,19 @@ impl Loops {
         ensures rest { of self.new sid.0 ≡ Some (drop 1 (queue_of self.old sid.0)) }
         ensures others { ChangesOnly sid.0 (of self.old) (of self.new) }
     {
-        let row = &mut self.rows[sid.0 as usize];
-        let was_busy = row.is_busy();
-        let datagram = row.take();
-        self.busy = counted(self.busy, was_busy, row.is_busy());
+        let loopback = self.stacks.at_mut(sid).unwrap();
+        let was_busy = loopback.is_busy();
+        let datagram = loopback.take();
+        self.busy = counted(self.busy, was_busy, loopback.is_busy());
         datagram
     }
 
     /// The number of datagrams for which there is room in the queue of a stack.
     pub fn free(&self, sid: Sid) -> u64
         requires { IsSome (of self.now sid.0) }
-        ensures { result + length (queue_of self.now sid.0) ≡ most }
+        ensures { result + length (queue_of self.now sid.0) ≡ LOOPBACK_MAX }
     {
-        self.rows[sid.0 as usize].free()
+        self.stacks.at(sid).unwrap().free()
     }
 
     /// The first of the stacks in which a datagram is queued.
@@ -119,8 +119,8 @@ impl Loops {
     fn is_busy(&self, sid: Sid) -> bool
         ensures { result ≡ is_busy (of self.now sid.0) }
     {
-        match self.rows.get(sid.0 as usize) {
-            Some(row) => row.is_busy(),
+        match self.stacks.at(sid) {
+            Some(loopback) => loopback.is_busy(),
             None => false,
         }
     }
@@ -128,9 +128,9 @@ impl Loops {
 
 /// The number of busy stacks, once one of them was busy or not, and is so or not.
 fn counted(busy: usize, was_busy: bool, is_busy: bool) -> usize
-    requires counted { flag was_busy ≤ busy }
-    requires fits { busy + flag is_busy < 2 ^ 64 + flag was_busy }
-    ensures { result + flag was_busy ≡ busy + flag is_busy }
+    requires counted { (if was_busy then 1 else 0) ≤ busy }
+    requires fits { busy + (if is_busy then 1 else 0) < 2 ^ 64 + (if was_busy then 1 else 0) }
+    ensures { result + (if was_busy then 1 else 0) ≡ busy + (if is_busy then 1 else 0) }
 {
     match (was_busy, is_busy) {
         (false, true) => busy + 1,

@@ -1,5 +1,7 @@
-ghost use Rattle.std.specs.Prelude.{◌≡◌, ◌+◌, ◌++◌, ◌∷◌, [], Some, None, false, IsSome, IsNone, OnOk, OnErr, MatchResult, drop, length, slice_get, unwrap_or};
-ghost use Rattle.vn_loop.specs.Queues.{most, put_refusal, is_busy};
+ghost use Rattle.std.specs.Prelude.{◌≡◌, ◌+◌, ◌++◌, ◌∷◌, [], Some, None, false, IsSome, IsNone, OnOk, OnErr, drop, length, slice_get, unwrap_or};
+ghost use Rattle.vn_types.specs.Refusals.{IsRefusedBy};
+ghost use Rattle.vn_rules.specs.declared.parts.TheConstants.{LOOPBACK_MAX};
+ghost use Rattle.vn_loop.specs.Queues.{put_refusal, is_busy};
 
 use crate::queue::Queue;
 use bytes::Bytes;
@@ -7,13 +9,13 @@ use std::alloc::Global;
 use std::marker::Model;
 use vn_types::{Empty, Errno, NoMemory};
 
-/// What is kept for one stack: a queue or none.
+/// The loopback of one stack: a queue or none.
 #[derive(Drop)]
-pub(crate) struct Row {
+pub(crate) struct Loopback {
     queue: Option<Queue>,
 }
 
-impl Model for Row {
+impl Model for Loopback {
     ghost use Rattle.std.specs.Prelude.{ℕ, List, Option};
 
     ghost Value = { Option (List (List ℕ)) };
@@ -21,39 +23,34 @@ impl Model for Row {
     ghost view = { λ a. a.queue };
 }
 
-impl Empty for Row {
+impl Empty for Loopback {
     ghost empty = { None };
 
-    fn empty(_: Global) -> Row {
-        Row { queue: None }
+    fn empty(_: Global) -> Loopback {
+        Loopback { queue: None }
     }
 }
 
-impl Row {
-    pub fn make(&mut self, alloc: Global) -> Result<(), NoMemory>
+impl Loopback {
+    pub(crate) fn make(&mut self, alloc: Global) -> Result<(), NoMemory>
         requires { IsNone self.old }
         ensures idle { is_busy self.new ≡ false }
         ensures made { OnOk result (self.new ≡ Some []) }
         ensures no_memory { OnErr result (self.new ≡ self.old) }
     {
-        match Queue::new(alloc) {
-            Ok(queue) => {
-                self.queue = Some(queue);
-                Ok(())
-            }
-            Err(error) => Err(error),
-        }
+        self.queue = Some(Queue::new(alloc)?);
+        Ok(())
     }
 
-    pub fn remove(&mut self)
+    pub(crate) fn remove(&mut self)
         ensures { self.new ≡ None }
     {
         self.queue = None;
     }
 
-    pub fn put(&mut self, datagram: Bytes) -> Result<(), Errno>
+    pub(crate) fn put(&mut self, datagram: Bytes) -> Result<(), Errno>
         requires { IsSome self.old }
-        ensures answer { MatchResult result (λ _. put_refusal (unwrap_or self.old []) ≡ None) (λ errno. put_refusal (unwrap_or self.old []) ≡ Some errno) }
+        ensures answer { IsRefusedBy (put_refusal (unwrap_or self.old [])) result }
         ensures queued { OnOk result (self.new ≡ Some (unwrap_or self.old [] ++ datagram ∷ [])) }
         ensures refused { OnErr result (self.new ≡ self.old) }
     {
@@ -63,7 +60,7 @@ impl Row {
         }
     }
 
-    pub fn take(&mut self) -> Option<Bytes>
+    pub(crate) fn take(&mut self) -> Option<Bytes>
         requires { IsSome self.old }
         ensures first { result ≡ slice_get (unwrap_or self.old []) 0 }
         ensures rest { self.new ≡ Some (drop 1 (unwrap_or self.old [])) }
@@ -74,9 +71,9 @@ impl Row {
         }
     }
 
-    pub fn free(&self) -> u64
+    pub(crate) fn free(&self) -> u64
         requires { IsSome self.now }
-        ensures { result + length (unwrap_or self.now []) ≡ most }
+        ensures { result + length (unwrap_or self.now []) ≡ LOOPBACK_MAX }
     {
         match &self.queue {
             Some(queue) => queue.free(),
@@ -85,7 +82,7 @@ impl Row {
     }
 
     /// Whether a datagram is queued.
-    pub fn is_busy(&self) -> bool
+    pub(crate) fn is_busy(&self) -> bool
         ensures { result ≡ is_busy self.now }
     {
         match &self.queue {
