@@ -2,24 +2,22 @@
 //! theorem speaks of.
 #![tactic(auto)]
 
+mod bounds;
 mod cell;
 mod command;
 mod event;
+mod listing;
 mod report;
 mod script;
-mod table;
 mod transcript;
 mod world;
 
 pub use cell::{CellName, Cells};
 pub use command::{Command, Payload};
-pub use event::{Event, History};
+pub use event::{EVENTS_MAX, Event, History};
+pub use listing::{ArpRow, IfRow, RouteRow, RowTarget, Rows, Table};
 pub use report::{Report, SectionText, Watch};
 pub use script::{LaneLine, Line, Part, Script};
-pub use table::{ArpRow, IfRow, RouteRow, RowTarget, Rows, Table};
-pub use transcript::{Entry, Outcome, What};
-pub use vn_rules::ArpState;
+pub use transcript::{Entry, What};
+pub use vn_rules::{ArpState, Outcome};
 pub use world::{Children, End, Live, Pair, Reader, Stack, World};
-
-#[cfg(test)]
-mod tests;

@@ -1,5 +1,5 @@
 use crate::event::History;
-use crate::table::IfRow;
+use crate::listing::IfRow;
 use crate::transcript::Entry;
 use vn_types::{List, Path};
 

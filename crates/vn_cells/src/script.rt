@@ -1,12 +1,27 @@
 ghost use Rattle.std.specs.Prelude.{◌≡◌, IfOk};
+ghost use Rattle.std.specs.List.{list_all};
+ghost use Rattle.vn_cells.specs.machine.Events.{is_built_line, is_valid_asked, is_valid_line, is_valid_part, is_valid_script};
 
+use crate::bounds::is_wait;
 use crate::command::Command;
+use crate::event::is_at_path;
+use crate::listing::Table;
 use vn_types::{List, NoMemory, Path};
 
 /// What a line of a lane asks for.
 #[derive(Drop)]
 pub enum Line {
     Cmd(Command),
+    /// A whole table, line by line.
+    List(Table),
+    /// A reader of a table.
+    Open(Table),
+    /// The next line of the lane's reader.
+    Next,
+    /// The end of the lane's reader.
+    Close,
+    /// A look at the board of interface tables.
+    Watch,
 }
 
 /// A line of a lane (1 to 8), run at a path.
@@ -22,6 +37,10 @@ pub struct LaneLine {
 pub enum Part {
     /// Lines of the lanes, in script order.
     Phase(List<LaneLine>),
+    /// All that is queued is delivered.
+    Settle,
+    /// The clock moves on by so many milliseconds, with all that happens meanwhile.
+    Sleep(u64),
 }
 
 /// A script, part by part.
@@ -31,19 +50,51 @@ pub struct Script {
 }
 
 impl Line {
+    /// Whether the line can be asked for at a path.
+    #[tactic(auto, unfolding(crate::specs::machine::Events::is_valid_asked))]
+    fn is_valid(&self, path: &Path) -> bool
+        ensures { result ≡ is_valid_asked path.now self.now }
+    {
+        match self {
+            Line::Cmd(command) => command.is_valid(path),
+            Line::List(_) | Line::Open(_) | Line::Next | Line::Close | Line::Watch => true,
+        }
+    }
+
+    /// Whether the program runs it so far.
+    #[tactic(auto, unfolding(crate::specs::machine::Events::is_built_line))]
+    pub fn is_built(&self) -> bool
+        ensures { result ≡ is_built_line self.now }
+    {
+        match self {
+            Line::Cmd(command) => command.is_built(),
+            _ => false,
+        }
+    }
+
     fn copy(&self) -> Result<Line, NoMemory>
         ensures { IfOk result (λ l. l ≡ self.now) }
     {
-        match self {
-            Line::Cmd(command) => {
-                let command = command.copy()?;
-                Ok(Line::Cmd(command))
-            }
-        }
+        Ok(match self {
+            Line::Cmd(command) => Line::Cmd(command.copy()?),
+            Line::List(table) => Line::List(*table),
+            Line::Open(table) => Line::Open(*table),
+            Line::Next => Line::Next,
+            Line::Close => Line::Close,
+            Line::Watch => Line::Watch,
+        })
     }
 }
 
 impl LaneLine {
+    /// Whether its events can happen.
+    #[tactic(auto, unfolding(crate::specs::machine::Events::is_valid_line))]
+    pub fn is_valid(&self) -> bool
+        ensures { result ≡ is_valid_line self.now }
+    {
+        is_at_path(self.lane, &self.path) && self.line.is_valid(&self.path)
+    }
+
     fn copy(&self) -> Result<LaneLine, NoMemory>
         ensures { IfOk result (λ l. l ≡ self.now) }
     {
@@ -68,20 +119,44 @@ fn copy_lines(lines: &List<LaneLine>) -> Result<List<LaneLine>, NoMemory>
     Ok(copies)
 }
 
+fn are_valid(lines: &[LaneLine]) -> bool
+    ensures { result ≡ list_all is_valid_line lines.now }
+{
+    lines.iter().all(|line| line.is_valid())
+}
+
 impl Part {
+    /// Whether its events can happen.
+    #[tactic(auto, unfolding(crate::specs::machine::Events::is_valid_part))]
+    pub fn is_valid(&self) -> bool
+        ensures { result ≡ is_valid_part self.now }
+    {
+        match self {
+            Part::Phase(lines) => are_valid(lines.as_slice()),
+            Part::Settle => true,
+            Part::Sleep(milliseconds) => is_wait(*milliseconds),
+        }
+    }
+
     fn copy(&self) -> Result<Part, NoMemory>
         ensures { IfOk result (λ p. p ≡ self.now) }
     {
-        match self {
-            Part::Phase(lines) => {
-                let lines = copy_lines(lines)?;
-                Ok(Part::Phase(lines))
-            }
-        }
+        Ok(match self {
+            Part::Phase(lines) => Part::Phase(copy_lines(lines)?),
+            Part::Settle => Part::Settle,
+            Part::Sleep(milliseconds) => Part::Sleep(*milliseconds),
+        })
     }
 }
 
 impl Script {
+    /// Whether its events can happen.
+    pub fn is_valid(&self) -> bool
+        ensures { result ≡ is_valid_script self.now }
+    {
+        self.parts.as_slice().iter().all(|part| part.is_valid())
+    }
+
     /// The same script once more.
     pub fn copy(&self) -> Result<Script, NoMemory>
         ensures { IfOk result (λ s. s ≡ self.now) }

@@ -1,22 +1,15 @@
 use crate::command::Command;
-use crate::table::Table;
-use vn_types::{Errno, Ip4, Name, Octets};
-
-/// What a command or a reader's event was answered.
-#[derive(Drop)]
-pub enum Outcome {
-    Done,
-    Refused(Errno),
-    /// A text without a line end.
-    Value(Octets),
-}
+use crate::listing::Table;
+use vn_rules::Outcome;
+use vn_types::{Boxed, Ip4, Name};
 
 /// What an entry of a transcript tells.
 #[derive(Drop)]
 pub enum What {
     Cmd {
         lane: u8,
-        command: Command,
+        /// On the heap, since most entries are those of constructors.
+        command: Boxed<Command>,
         outcome: Outcome,
     },
     Open {

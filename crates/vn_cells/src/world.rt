@@ -29,13 +29,13 @@ pub struct Stack {
     pub live: Option<Live>,
 }
 
-/// One side of a pair: the path where the half stands, its hardware address, and the frames that come
-/// to it, oldest first.
+/// One side of a pair: the path where the half stands, its hardware address, and the frames that it sent
+/// and that still wait, oldest first.
 pub struct End {
     pub at: Path,
     pub mac: Mac,
     pub up: bool,
-    pub frames: List<Bytes>,
+    pub sent: List<Bytes>,
 }
 
 /// A pair of halves (epair(4)).

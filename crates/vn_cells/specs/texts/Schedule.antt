@@ -1,34 +1,45 @@
 -- Which history a script asks for, line by line and part by part.
 use Rattle.std.specs.Prelude.{◌≡◌, List, [], ◌∷◌, ◌++◌}
 use Rattle.vn_cells.specs.declared.event.Event.{Event}
-use Rattle.vn_cells.specs.declared.event.Event.TheVariants.{Cmd}
+use Rattle.vn_cells.specs.declared.event.Event.TheVariants as event
 use Rattle.vn_cells.specs.declared.script.LaneLine.{LaneLine}
 use Rattle.vn_cells.specs.declared.script.Line.{Line}
-use Rattle.vn_cells.specs.declared.script.Line.TheVariants.{Cmd as Runs}
+use Rattle.vn_cells.specs.declared.script.Line.TheVariants as line
 use Rattle.vn_cells.specs.declared.script.Part.{Part}
-use Rattle.vn_cells.specs.declared.script.Part.TheVariants.{Phase}
+use Rattle.vn_cells.specs.declared.script.Part.TheVariants.{Phase, Settle, Sleep}
 use Rattle.vn_cells.specs.declared.script.Script.{Script}
 use Rattle.vn_cells.specs.declared.world.World.{World}
-use Rattle.vn_cells.specs.Step.{opening, run_from}
+use Rattle.vn_cells.specs.machine.Step.{opening, run_from}
 
 -- the events of a line, in the world where it begins
 unfoldable pub line_events : World → LaneLine → List Event
-line_events w line = by line.line
+line_events w asked = by asked.line
   where
     by : Line → List Event
-    by (Runs command) = Cmd line.lane line.path command ∷ []
+    by (line.Cmd command) = event.Cmd asked.lane asked.path command ∷ []
+    by (line.List table) = event.Open asked.lane asked.path table ∷ []
+    by (line.Open table) = event.Open asked.lane asked.path table ∷ []
+    by line.Next = event.Next asked.lane asked.path ∷ []
+    by line.Close = event.Close asked.lane asked.path ∷ []
+    by line.Watch = []
 
 -- the events of lines, one line after another
 unfoldable pub lines_events : World → List LaneLine → List Event
 lines_events w [] = []
-lines_events w (line ∷ lines) = let events = line_events w line in events ++ lines_events (run_from w events) lines
+lines_events w (asked ∷ lines) =
+    let events = line_events w asked in events ++ lines_events (run_from w events) lines
 
+-- the events of a part, in the world where it begins
 unfoldable pub part_events : World → Part → List Event
 part_events w (Phase lines) = lines_events w lines
+part_events w Settle = []
+part_events w (Sleep n) = []
 
+-- the events of parts, one part after another
 unfoldable pub parts_events : World → List Part → List Event
 parts_events w [] = []
-parts_events w (part ∷ parts) = let events = part_events w part in events ++ parts_events (run_from w events) parts
+parts_events w (part ∷ parts) =
+    let events = part_events w part in events ++ parts_events (run_from w events) parts
 
 -- the one history of the script whose lines are done in script order
 abbrev pub serial_run : Script → List Event

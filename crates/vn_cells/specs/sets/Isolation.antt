@@ -5,10 +5,10 @@ use Rattle.vn_cells.specs.declared.cell.CellName.{CellName}
 use Rattle.vn_cells.specs.declared.cell.CellName.TheVariants.{Stack as OfStack, Pair as OfPair}
 use Rattle.vn_cells.specs.declared.event.Event.{Event}
 use Rattle.vn_cells.specs.declared.world.World.{World}
-use Rattle.vn_cells.specs.World.{stack_at, pair_at}
-use Rattle.vn_cells.specs.Step.{run}
-use Rattle.vn_cells.specs.Sets.{in_set}
-use Rattle.vn_cells.specs.Changed.{IsClosed, project}
+use Rattle.vn_cells.specs.world.World.{stack_at, pair_at}
+use Rattle.vn_cells.specs.machine.Step.{run}
+use Rattle.vn_cells.specs.sets.Sets.{in_set}
+use Rattle.vn_cells.specs.sets.Changed.{IsClosed, project}
 
 -- the cell is the same in both worlds, as a whole
 abbrev pub SameCell : World → World → CellName → Type 0

@@ -7,13 +7,15 @@ use Rattle.vn_cells.specs.declared.report.SectionText.{SectionText}
 use Rattle.vn_cells.specs.declared.transcript.Entry.{Entry}
 use Rattle.vn_cells.specs.declared.world.Stack.{Stack}
 use Rattle.vn_cells.specs.declared.world.World.{World}
-use Rattle.vn_cells.specs.Names.{Path}
-use Rattle.vn_cells.specs.Step.{run}
+use Rattle.vn_cells.specs.world.Names.{Path}
+use Rattle.vn_cells.specs.machine.Step.{run}
 
+-- whether a transcript is not empty
 abbrev pub has_entry : List Entry → Bool
 has_entry [] = false
 has_entry (e ∷ es) = true
 
+-- a path's transcript, as it is written
 abbrev pub section_of : Path × Stack → SectionText
 section_of s = record { path = s.0; entries = s.1.entries }
 
@@ -21,6 +23,6 @@ section_of s = record { path = s.0; entries = s.1.entries }
 unfoldable pub sections_of : World → List SectionText
 sections_of w = map section_of (filter (λ s. has_entry s.1.entries) w.stacks)
 
--- no built event opens a reader
+-- what the run of a history leaves; no built event opens a reader
 abbrev pub report_of : List Event → Report
 report_of events = record { history = events; sections = sections_of (run events); opened = 0; kept = 0 }
