@@ -1,208 +1,207 @@
--- How far an event reaches, and what a set of all its paths keeps of a history.
-use Rattle.std.proofs.Common.{◌≡◌, ◌≢◌, ℕ, ◌+◌, Bool, true, false, ◌&&◌, ◌||◌, not, List, [], ◌∷◌, ◌++◌, length, length-append, Option, Some, None, refl, sym, ap, ◌∙◌, arith}
-use Rattle.std.specs.Prelude.{if◌then◌else◌, unwrap_or}
+-- How far an event reaches.
+use Rattle.std.proofs.Common.{◌≡◌, ◌≢◌, ℕ, Bool, true, false, List, [], ◌∷◌, ◌++◌, Option, Some, None, refl, sym, ap, ◌∙◌, subst, arith}
+use Rattle.std.specs.Prelude.{if◌then◌else◌}
 use Rattle.std.specs.Option.{is_some, option_map}
-use Rattle.std.specs.List.{list_any, list_all}
+use Rattle.std.specs.List.{list_any}
+use Rattle.std.proofs.lemmas.Bool.{true≢false}
 use Rattle.vn_types.specs.declared.errno.Errno.{Errno}
-use Rattle.vn_types.specs.declared.errno.Errno.TheVariants.{NoEnt}
-use Rattle.vn_types.specs.PathOrder.{path_eq-Decides}
-use Rattle.vn_cells.specs.declared.cell.Cells.{Cells}
-use Rattle.vn_cells.specs.declared.cell.CellName.TheVariants.{Stack as OfStack}
+use Rattle.vn_types.specs.declared.errno.Errno.TheVariants as errno
+use Rattle.vn_types.specs.declared.half.Half.{Half}
+use Rattle.vn_types.specs.declared.interface.Side.TheVariants.{A, B}
+use Rattle.vn_types.specs.Refusals.{first_refusal}
+use Rattle.vn_types.proofs.Ancestors.{any-above}
+use Rattle.vn_rules.specs.declared.outcome.Outcome.TheVariants as outcome
+use Rattle.vn_rules.specs.Rules.{Answer, answer, answer_by, refused}
+use Rattle.vn_rules.specs.Scenes.{SceneOf, link_of}
 use Rattle.vn_cells.specs.declared.command.Command.{Command}
-use Rattle.vn_cells.specs.declared.command.Command.TheVariants.{JailCreate}
+use Rattle.vn_cells.specs.declared.command.Command.TheVariants as command
 use Rattle.vn_cells.specs.declared.event.Event.{Event}
-use Rattle.vn_cells.specs.declared.event.Event.TheVariants.{Cmd}
-use Rattle.vn_cells.specs.declared.transcript.Entry.{Entry}
-use Rattle.vn_cells.specs.declared.transcript.Outcome.TheVariants.{Done, Refused}
-use Rattle.vn_cells.specs.declared.transcript.What.TheVariants.{Cmd as Ran}
+use Rattle.vn_cells.specs.declared.event.Event.TheVariants as event
+use Rattle.vn_cells.specs.declared.transcript.What.TheVariants as what
+use Rattle.vn_cells.specs.declared.world.End.{End}
+use Rattle.vn_cells.specs.declared.world.Live.{Live}
 use Rattle.vn_cells.specs.declared.world.Pair.{Pair}
 use Rattle.vn_cells.specs.declared.world.Stack.{Stack}
 use Rattle.vn_cells.specs.declared.world.World.{World}
-use Rattle.vn_cells.specs.Names.{Path, Key, path_eq, path_cmp, key_cmp, above}
-use Rattle.vn_cells.specs.Table.{find}
-use Rattle.vn_cells.specs.World.{no_stack, stack_at, pair_at, is_alive, edit_stack}
-use Rattle.vn_cells.specs.Local.{Here, placed}
-use Rattle.vn_cells.specs.Refusal.{refusal}
-use Rattle.vn_cells.specs.Step.{one_more_below, created, effect, outcome, ran, refusal_at, step}
-use Rattle.vn_cells.specs.Sets.{in_set, in_stacks}
-use Rattle.vn_cells.specs.Changed.{same, stack_code, differs, changed, touches, is_common, is_kept, project_from}
-use Rattle.vn_laws.specs.Locality.{ChangesNear, AddsEntry, MakesJail, path_of}
-use Rattle.vn_laws.proofs.CellLaws.{stack_at-edit_stack, stack_at-each_pair, pair_at-edit_stack, pair_at-each_pair, clock-edit_stack, clock-each_pair}
-use Rattle.vn_types.proofs.Ancestors.{any-above}
-use Rattle.vn_laws.proofs.Created.{bumped, made, stack_at-created, stack_at-answered, stack_at-done, pair_at-step}
-use Rattle.vn_laws.proofs.SoundSteps.{dead_before, refusal_at-None}
-use Rattle.vn_laws.proofs.Isolated.{clock-step}
-use Rattle.vn_laws.proofs.Touched.{same-is, caught, stack_listed}
+use Rattle.vn_cells.specs.world.Names.{Path, Key, path_eq, above, half_eq, half_on, has_half, halves_of}
+use Rattle.vn_cells.specs.world.World.{stack_at, pair_at, is_alive, ifs_in, common_of, entry_of, live_map, edit_stack}
+use Rattle.vn_cells.specs.machine.Reach.{Reach, Near, MakesJail, reach}
+use Rattle.vn_cells.specs.commands.Jails.{one_more_below, recount_above, created}
+use Rattle.vn_cells.specs.machine.Commands.{near_rule, far_rule}
+use Rattle.vn_cells.specs.machine.Local.{scene_in, with_link, live_after, end_after, pair_after, placed, placed_if, told, halves_at, near_answer, local, act_by}
+use Rattle.vn_cells.specs.machine.Step.{ran, entered, ran_by, commanded, refusal_at, step}
+use Rattle.vn_laws.specs.Locality.{ChangesNear, AddsEntry, AddsJail, answered_near}
+use Rattle.vn_laws.proofs.edits.Cells.{path_eq-same, apart, own_edit, other_edit, pair_at-edit_stack, clock-edit_stack}
+use Rattle.vn_laws.proofs.local.Placed.{placed_stack, placed_pair, placed_clock}
+use Rattle.vn_laws.proofs.jails.Created.{MayCreate, may_create, more, fresh, created_stack, created_pair, created_clock}
 
-no : true ≡ false → ⊥
-no e = cc
+-- ---- near a stack
 
-path_eq-same : (p : Path) → path_eq p p ≡ true
-path_eq-same p = (path_eq-Decides p p).1 refl
-
-apart : (q p : Path) → q ≢ p → path_eq q p ≡ false
-apart q p ne = by (path_eq q p) refl
+-- a pair of which no half stands there
+pair_apart : (halves : List Half) (s : SceneOf Half) (k : Key) (o : Option Pair) → has_half halves (half_on A k) ≡ false
+    → has_half halves (half_on B k) ≡ false → option_map (pair_after halves s k) o ≡ o
+pair_apart halves s k None a b = refl
+pair_apart halves s k (Some pair) a b =
+    λ i. Some (record { a = end_is (half_on A k) pair.a a i; b = end_is (half_on B k) pair.b b i })
   where
-    by : (b : Bool) → path_eq q p ≡ b → b ≡ false
-    by false e = refl
-    by true e = absurd (ne ((path_eq-Decides q p).0 e))
+    end_is : (h : Half) (end : End) → has_half halves h ≡ false → end_after halves s h end ≡ end
+    end_is h end e = ap (λ c. if c then with_link (link_of half_eq h s) end else end) e
 
--- ---- a local event
-
-pub placed-near : (p : Path) (before : List (Key × Pair)) (here : Here) (w : World) → ChangesNear p before here w (placed p before here w)
-unfolding placed
-placed-near p before here w = record {
-  clock = clock-each_pair _ _ ∙ clock-edit_stack p (λ _. here.stack) w;
-  own = stack_at-each_pair _ _ p ∙ stack_at-edit_stack p (λ _. here.stack) w p ∙ ap (λ b. if b then here.stack else stack_at w p) (path_eq-same p);
-  stacks = λ q ne. stack_at-each_pair _ _ q ∙ stack_at-edit_stack p (λ _. here.stack) w q ∙ ap (λ b. if b then here.stack else stack_at w q) (apart q p ne);
-  pairs = λ k none. pair_at-each_pair _ _ k ∙ by k (pair_at (edit_stack p (λ _. here.stack) w) k) none ∙ pair_at-edit_stack p (λ _. here.stack) w k;
+pub placed-near : (p : Path) (scene : SceneOf Half) (w : World)
+    → ChangesNear p (live_map (live_after scene)) scene w (placed p (halves_at w p) scene w)
+placed-near p scene w = record {
+  clock = placed_clock p (halves_at w p) scene w;
+  own = placed_stack p (halves_at w p) scene w p
+      ∙ ap (λ b. if b then live_map (live_after scene) (stack_at w p) else stack_at w p) (path_eq-same p);
+  stacks = λ q ne. placed_stack p (halves_at w p) scene w q
+      ∙ ap (λ b. if b then live_map (live_after scene) (stack_at w q) else stack_at w q) (apart q p ne);
+  pairs = placed_pair p (halves_at w p) scene w;
+  apart = λ k a b. placed_pair p (halves_at w p) scene w k ∙ pair_apart (halves_at w p) scene k (pair_at w k) a b;
 }
-  where
-    by : (k : Key) (o : Option Pair) → find key_cmp k before ≡ None → option_map (λ pair. if is_some (find key_cmp k before) then unwrap_or (find key_cmp k here.pairs) pair else pair) o ≡ o
-    by k None none = refl
-    by k (Some pair) none = ap (λ f. Some (if is_some f then unwrap_or (find key_cmp k here.pairs) pair else pair)) none
+
+-- a change near a stack, and an entry there
+then_entry : (p : Path) (f g h : Stack → Stack) (scene : SceneOf Half) (v w : World) → ChangesNear p f scene v w
+    → g (f (stack_at v p)) ≡ h (stack_at v p) → ChangesNear p h scene v (edit_stack p g w)
+then_entry p f g h scene v w c e = record {
+  clock = clock-edit_stack p g w ∙ c.clock;
+  own = own_edit p g w ∙ ap g c.own ∙ e;
+  stacks = λ q ne. other_edit p g w q ne ∙ c.stacks q ne;
+  pairs = λ k. pair_at-edit_stack p g w k ∙ c.pairs k;
+  apart = λ k a b. pair_at-edit_stack p g w k ∙ c.apart k a b;
+}
 
 -- ---- a command
 
-pub refused-adds : (w : World) (lane : ℕ) (p : Path) (command : Command) (errno : Errno) → refusal_at w p command ≡ Some errno
-    → AddsEntry p (record { clock = w.clock; what = Ran lane command (Refused errno) }) w (step w (Cmd lane p command))
-unfolding step is_common
-refused-adds w lane p command errno e = record {
-  clock = clock-step w (Cmd lane p command) refl;
-  own = rw e (stack_at-answered w.clock lane p command errno _ w p ∙ ap (λ b. if b then ran w.clock lane command (Refused errno) (stack_at w p) else stack_at w p) (path_eq-same p));
-  stacks = λ q ne. rw e (stack_at-answered w.clock lane p command errno _ w q ∙ ap (λ b. if b then ran w.clock lane command (Refused errno) (stack_at w q) else stack_at w q) (apart q p ne));
-  pairs = λ k i. pair_at-step w (Cmd lane p command) i k;
-}
+abbrev heard_near : World → ℕ → Path → Command → Live → Answer (SceneOf Half)
+heard_near w lane p command live =
+    answer (scene_in w live.parts) (near_rule half_eq (common_of w) command (scene_in w live.parts))
 
-pub dead-refused : (w : World) (p : Path) (command : Command) → is_alive w p ≡ false → refusal_at w p command ≡ Some NoEnt
-dead-refused w p command dead = ap (λ b. if b then refusal w p command else Some NoEnt) dead
+pub near-answers : (w : World) (lane : ℕ) (p : Path) (command : Command) (live : Live) → reach p command ≡ Near
+    → (stack_at w p).live ≡ Some live
+    → ChangesNear p (answered_near w.clock lane command (heard_near w lane p command live)) (heard_near w lane p command live).left w
+    (step w (event.Cmd lane p command))
+unfolding step commanded ran_by act_by local near_answer placed_if told
+near-answers w lane p command live near lives =
+    subst (λ (x : Option Live × Reach). ChangesNear p (answered_near w.clock lane command (heard_near w lane p command live))
+    (heard_near w lane p command live).left w
+    (if is_some x.0 then ran_by lane p command x.1 w else entered w.clock lane p command (refused errno.NoEnt w)))
+    (λ i. (sym lives i, sym near i))
+    acted
+  where
+    answered : Stack → Stack
+    answered s = record s {
+      entries = s.entries ++ entry_of w.clock (what.Cmd lane command (heard_near w lane p command live).outcome) ∷ [];
+      readers = (stack_at w p).readers;
+    }
 
-module _ (w : World) (lane : ℕ) (issuer path : Path) (limit : ℕ) (accepted : refusal_at w issuer (JailCreate path limit) ≡ None) where
+    acted : ChangesNear p (answered_near w.clock lane command (heard_near w lane p command live)) (heard_near w lane p command live).left w
+        (ran_by lane p command Near w)
+    acted =
+        rw lives
+        (subst (λ hs. ChangesNear p (answered_near w.clock lane command (heard_near w lane p command live)) (heard_near w lane p command live).left w
+        (edit_stack p answered (placed p hs (heard_near w lane p command live).left w)))
+        (ap (λ o. halves_of (ifs_in o)) lives)
+        (then_entry p (live_map (live_after (heard_near w lane p command live).left)) answered
+        (answered_near w.clock lane command (heard_near w lane p command live))
+        (heard_near w lane p command live).left w _ (placed-near p (heard_near w lane p command live).left w) refl))
+
+pub refused-adds : (w : World) (lane : ℕ) (p : Path) (command : Command) (code : Errno) → refusal_at w p command ≡ Some code
+    → AddsEntry p (entry_of w.clock (what.Cmd lane command (outcome.Refused code))) w (step w (event.Cmd lane p command))
+unfolding step commanded ran_by far_rule answer_by
+refused-adds w lane p command code e = by (is_alive w p) e
+  where
+    entry : (f : Errno) → AddsEntry p (entry_of w.clock (what.Cmd lane command (outcome.Refused f))) w (entered w.clock lane p command (refused f w))
+    entry f = record {
+      clock = clock-edit_stack p _ w;
+      own = own_edit p _ w;
+      stacks = λ q ne. other_edit p _ w q ne;
+      pairs = λ k. pair_at-edit_stack p _ w k;
+    }
+
+    far : (r : Reach) → first_refusal (far_rule (common_of w) p r w).refusals ≡ Some code
+        → AddsEntry p (entry_of w.clock (what.Cmd lane command (outcome.Refused code))) w (ran_by lane p command r w)
+    far Near f = cc
+    far (MakesJail q limit) f =
+        subst (λ o. AddsEntry p (entry_of w.clock (what.Cmd lane command (outcome.Refused code))) w
+        (entered w.clock lane p command (answer_by o w (far_rule (common_of w) p (MakesJail q limit) w).otherwise)))
+        (sym f) (entry code)
+    far _ f = cc
+
+    by : (b : Bool) → (if b then first_refusal (far_rule (common_of w) p (reach p command) w).refusals else Some errno.NoEnt) ≡ Some code
+        → AddsEntry p (entry_of w.clock (what.Cmd lane command (outcome.Refused code))) w
+        (if b then ran_by lane p command (reach p command) w else entered w.clock lane p command (refused errno.NoEnt w))
+    by true f = far (reach p command) f
+    by false f =
+        let same : errno.NoEnt ≡ code = cc in
+        subst (λ c. AddsEntry p (entry_of w.clock (what.Cmd lane command (outcome.Refused c))) w (entered w.clock lane p command (refused errno.NoEnt w)))
+        same (entry errno.NoEnt)
+
+pub dead-refused : (w : World) (p : Path) (command : Command) → is_alive w p ≡ false → refusal_at w p command ≡ Some errno.NoEnt
+dead-refused w p command dead =
+    ap (λ b. if b then first_refusal (far_rule (common_of w) p (reach p command) w).refusals else Some errno.NoEnt) dead
+
+-- ---- a creation
+
+module _ (w : World) (lane : ℕ) (issuer path : Path) (limit : ℕ) (accepted : refusal_at w issuer (command.JailCreate path limit) ≡ None) where
   abbrev pub new : Path
   new = issuer ++ path
 
-  abbrev command : Command
-  command = JailCreate path limit
+  abbrev creation_event : Event
+  creation_event = event.Cmd lane issuer (command.JailCreate path limit)
 
-  after : (q : Path) → stack_at (step w (Cmd lane issuer command)) q
-      ≡ (if path_eq q issuer then ran w.clock lane command Done (stack_at (created w.clock new limit w) q) else stack_at (created w.clock new limit w) q)
-  unfolding step effect outcome
-  after q = rw accepted (stack_at-done w.clock lane issuer command (effect w.clock issuer command) w q)
+  abbrev entry : Stack → Stack
+  entry s = ran w.clock lane (command.JailCreate path limit) outcome.Done s
 
-  issuer_alive : is_alive w issuer ≡ true
-  issuer_alive = (refusal_at-None w issuer command accepted).0
+  lives_and : (b : Bool) (o : Option Errno) → (if b then o else Some errno.NoEnt) ≡ None → (b ≡ true) × (o ≡ None)
+  lives_and true o e = (refl, e)
+  lives_and false o e = cc
 
-  pub new_dead : is_alive w new ≡ false
-  unfolding refusal
-  new_dead = dead_before w new (refusal_at-None w issuer command accepted).1
+  parts : (is_alive w issuer ≡ true) × (first_refusal (far_rule (common_of w) issuer (MakesJail new limit) w).refusals ≡ None)
+  unfolding reach
+  parts = lives_and (is_alive w issuer) (first_refusal (far_rule (common_of w) issuer (MakesJail new limit) w).refusals) accepted
 
-  new_apart : path_eq new issuer ≡ false
-  new_apart = apart new issuer (λ e. no (sym issuer_alive ∙ ap (is_alive w) (sym e) ∙ new_dead))
+  pub may : MayCreate w new
+  unfolding far_rule
+  may = may_create (common_of w) new limit w parts.1
 
-  issuer_apart : path_eq issuer new ≡ false
-  issuer_apart = apart issuer new (λ e. no (sym issuer_alive ∙ ap (is_alive w) e ∙ new_dead))
+  -- the step is the creation, and the entry
+  after : step w creation_event ≡ edit_stack issuer entry (created w.clock new limit w)
+  unfolding step commanded reach ran_by far_rule answer_by
+  after = rw (parts.0, parts.1) refl
+
+  new_apart : new ≢ issuer
+  new_apart e = true≢false (sym parts.0 ∙ ap (is_alive w) (sym e) ∙ may.dead)
 
   -- a jail is not above itself
   not_above : list_any (path_eq new) (above new) ≡ false
   not_above = any-above new new ∙ grind (arith, path_eq-same new)
 
   -- the stack of another path after the effect
-  other_than_new : (q : Path) (b : Bool) → path_eq q new ≡ false → list_any (path_eq q) (above new) ≡ b → stack_at (created w.clock new limit w) q ≡ (if b then one_more_below (stack_at w q) else stack_at w q)
-  other_than_new q b ne up =
-      stack_at-created w.clock new limit w q ∙ ap (λ c. if c then made w.clock limit (bumped new q (stack_at w q)) else bumped new q (stack_at w q)) ne
+  created_apart : (q : Path) (b : Bool) → q ≢ new → list_any (path_eq q) (above new) ≡ b
+      → stack_at (created w.clock new limit w) q ≡ (if b then one_more_below (stack_at w q) else stack_at w q)
+  created_apart q b ne up =
+      created_stack w.clock new limit w q
+      ∙ ap (λ c. if c then fresh w.clock limit (recount_above new more q (stack_at w q)) else recount_above new more q (stack_at w q)) (apart q new ne)
       ∙ ap (λ c. if c then one_more_below (stack_at w q) else stack_at w q) up
 
-  above_apart : (q : Path) → list_any (path_eq q) (above new) ≡ true → path_eq q new ≡ false
-  above_apart q up = apart q new (λ e. no (sym up ∙ ap (λ r. list_any (path_eq r) (above new)) e ∙ not_above))
-
-  not_issuer : (q : Path) → path_eq q issuer ≡ false → stack_at (step w (Cmd lane issuer command)) q ≡ stack_at (created w.clock new limit w) q
-  not_issuer q ne = after q ∙ ap (λ b. if b then ran w.clock lane command Done (stack_at (created w.clock new limit w) q) else stack_at (created w.clock new limit w) q) ne
-
   for_issuer : (b : Bool) → list_any (path_eq issuer) (above new) ≡ b
-      → stack_at (step w (Cmd lane issuer command)) issuer ≡ ran w.clock lane command Done (if b then one_more_below (stack_at w issuer) else stack_at w issuer)
+      → stack_at (step w creation_event) issuer ≡ entry (if b then one_more_below (stack_at w issuer) else stack_at w issuer)
   for_issuer b up =
-      after issuer ∙ ap (λ c. if c then ran w.clock lane command Done (stack_at (created w.clock new limit w) issuer) else stack_at (created w.clock new limit w) issuer) (path_eq-same issuer)
-      ∙ ap (ran w.clock lane command Done) (other_than_new issuer b issuer_apart up)
+      ap (λ v. stack_at v issuer) after ∙ own_edit issuer entry _
+      ∙ ap entry (created_apart issuer b (λ e. new_apart (sym e)) up)
 
-  pub makes-jail : MakesJail issuer new limit (record { clock = w.clock; what = Ran lane command Done }) w (step w (Cmd lane issuer command))
-  unfolding is_common
-  makes-jail = record {
-    clock = clock-step w (Cmd lane issuer command) refl;
-    own = not_issuer new new_apart ∙ stack_at-created w.clock new limit w new
-        ∙ ap (λ c. if c then made w.clock limit (bumped new new (stack_at w new)) else bumped new new (stack_at w new)) (path_eq-same new)
-        ∙ ap (λ c. made w.clock limit (if c then one_more_below (stack_at w new) else stack_at w new)) not_above;
-    ancestors = λ q up ne. not_issuer q (apart q issuer ne) ∙ other_than_new q true (above_apart q up) up;
+  for_other : (q : Path) → q ≢ issuer → stack_at (step w creation_event) q ≡ stack_at (created w.clock new limit w) q
+  for_other q ne = ap (λ v. stack_at v q) after ∙ other_edit issuer entry _ q ne
+
+  pub adds-jail : AddsJail issuer new limit (entry_of w.clock (what.Cmd lane (command.JailCreate path limit) outcome.Done)) w (step w creation_event)
+  adds-jail = record {
+    clock = ap (λ (v : World). v.clock) after ∙ clock-edit_stack issuer entry _ ∙ created_clock w.clock new limit w;
+    own = for_other new new_apart ∙ created_stack w.clock new limit w new
+        ∙ ap (λ c. if c then fresh w.clock limit (recount_above new more new (stack_at w new)) else recount_above new more new (stack_at w new)) (path_eq-same new)
+        ∙ ap (λ c. fresh w.clock limit (if c then one_more_below (stack_at w new) else stack_at w new)) not_above;
+    ancestors = λ q up ne. for_other q ne ∙ created_apart q true (λ e. true≢false (sym up ∙ ap (λ r. list_any (path_eq r) (above new)) e ∙ not_above)) up;
     issuer_above = for_issuer true;
     issuer_host = for_issuer false;
-    elsewhere = λ q not_new ne not_up. not_issuer q (apart q issuer ne) ∙ other_than_new q false (apart q new not_new) not_up;
-    pairs = λ k i. pair_at-step w (Cmd lane issuer command) i k;
+    elsewhere = λ q not_new ne up. for_other q ne ∙ created_apart q false not_new up;
+    pairs = λ k. ap (λ v. pair_at v k) after ∙ pair_at-edit_stack issuer entry _ k ∙ created_pair w.clock new limit w k;
   }
-
--- ---- a set with every path of a history keeps the whole history
-
-longer : (xs : List Entry) (e : Entry) → xs ≡ xs ++ e ∷ [] → ⊥
-longer xs e s = let n : length xs ≡ length xs + 1 = ap length s ∙ length-append xs (e ∷ []) in omega arith
-
--- each event writes to the transcript of its path
-record Noted (w : World) (event : Event) : Type 0 where
-  entry : Entry
-  noted : (stack_at (step w event) (path_of event)).entries ≡ (stack_at w (path_of event)).entries ++ entry ∷ []
-
-notes : (w : World) (event : Event) → Noted w event
-notes w (Cmd lane issuer (JailCreate path limit)) = by (refusal_at w issuer (JailCreate path limit)) refl
-  where
-    by : (r : Option Errno) → refusal_at w issuer (JailCreate path limit) ≡ r → Noted w (Cmd lane issuer (JailCreate path limit))
-    by (Some errno) e = record { entry = record { clock = w.clock; what = Ran lane (JailCreate path limit) (Refused errno) }; noted = ap (λ (s : Stack). s.entries) (refused-adds w lane issuer (JailCreate path limit) errno e).own }
-    by None e = record { entry = record { clock = w.clock; what = Ran lane (JailCreate path limit) Done }; noted = up (list_any (path_eq issuer) (above (issuer ++ path))) refl }
-      where
-        up : (b : Bool) → list_any (path_eq issuer) (above (issuer ++ path)) ≡ b
-            → (stack_at (step w (Cmd lane issuer (JailCreate path limit))) issuer).entries ≡ (stack_at w issuer).entries ++ record { clock = w.clock; what = Ran lane (JailCreate path limit) Done } ∷ []
-        up true f = ap (λ (s : Stack). s.entries) ((makes-jail w lane issuer path limit e).issuer_above f)
-        up false f = ap (λ (s : Stack). s.entries) ((makes-jail w lane issuer path limit e).issuer_host f)
-
-module _ (set : Cells) (w : World) (event : Event) (inside : in_stacks set (path_of event) ≡ true) where
-  differs_there : differs w (step w event) (OfStack (path_of event)) ≡ true
-  unfolding differs
-  differs_there = by (same stack_code (stack_at w (path_of event)) (stack_at (step w event) (path_of event))) refl
-    where
-      by : (b : Bool) → same stack_code (stack_at w (path_of event)) (stack_at (step w event) (path_of event)) ≡ b → not b ≡ true
-      by false e = refl
-      by true e = let n = notes w event in absurd (longer _ n.entry (ap (λ (s : Stack). s.entries) (same-is stack_code _ _ e) ∙ n.noted))
-
-  -- the path is listed after the event
-  listed_there : (is_some (find path_cmp (path_of event) w.stacks) || is_some (find path_cmp (path_of event) (step w event).stacks)) ≡ true
-  unfolding stack_at
-  listed_there = by (find path_cmp (path_of event) (step w event).stacks) refl
-    where
-      or_true : (b : Bool) → (b || true) ≡ true
-      or_true true = refl
-      or_true false = refl
-
-      empty : {A : Type 0} (xs : List A) (x : A) → [] ≡ xs ++ x ∷ [] → ⊥
-      empty [] x e = cc
-      empty (y ∷ xs) x e = cc
-
-      by : (o : Option Stack) → find path_cmp (path_of event) (step w event).stacks ≡ o → (is_some (find path_cmp (path_of event) w.stacks) || is_some o) ≡ true
-      by (Some s) e = or_true (is_some (find path_cmp (path_of event) w.stacks))
-      by None e = let n = notes w event in absurd (empty _ n.entry (sym (ap (λ o. (unwrap_or o no_stack).entries) e) ∙ n.noted))
-
-  touched : touches set w event ≡ true
-  unfolding touches changed in_set
-  touched = caught (in_set set) (differs w (step w event)) _ (OfStack (path_of event)) inside differs_there (stack_listed w (step w event) (path_of event) listed_there)
-
-pub keeps-all : (set : Cells) (w : World) (events : List Event) → list_all (λ e. in_stacks set (path_of e)) events ≡ true → project_from set w events ≡ events
-unfolding project_from is_kept
-keeps-all set w [] all = refl
-keeps-all set w (event ∷ events) all =
-    by (is_common event) (touches set w event) (touched set w event (first _ _ all)) (keeps-all set (step w event) events (second _ _ all))
-  where
-    first : (a b : Bool) → (a && b) ≡ true → a ≡ true
-    first a b h = grind arith
-
-    second : (a b : Bool) → (a && b) ≡ true → b ≡ true
-    second a b h = grind arith
-
-    by : (a b : Bool) → b ≡ true → project_from set (step w event) events ≡ events → (if a || b then event ∷ project_from set (step w event) events else project_from set (step w event) events) ≡ event ∷ events
-    by true b e more = ap (λ es. event ∷ es) more
-    by false true e more = ap (λ es. event ∷ es) more
-    by false false e more = cc

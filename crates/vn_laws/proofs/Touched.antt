@@ -1,5 +1,5 @@
 -- What an event leaves where it touches no cell of the set.
-use Rattle.std.proofs.Common.{◌≡◌, Bool, true, false, cond, ◌||◌, List, [], ◌∷◌, ◌++◌, map, Option, Some, None, refl, sym, ap, ap₂, ◌∙◌, subst, arith, ◌⊎◌, inl, inr}
+use Rattle.std.proofs.Common.{◌≡◌, Bool, true, false, cond, ◌||◌, not, List, [], ◌∷◌, ◌++◌, map, Option, Some, None, refl, sym, ap, ap₂, ◌∙◌, subst, arith, ◌⊎◌, inl, inr}
 use Rattle.std.specs.Prelude.{unwrap_or, filter}
 use Rattle.std.specs.List.{list_any}
 use Rattle.std.specs.Coded.{Coded, coded_option}
@@ -15,16 +15,17 @@ use Rattle.vn_cells.specs.declared.cell.Cells.{Cells}
 use Rattle.vn_cells.specs.declared.cell.CellName.{CellName}
 use Rattle.vn_cells.specs.declared.cell.CellName.TheVariants.{Stack as OfStack, Pair as OfPair}
 use Rattle.vn_cells.specs.declared.event.Event.{Event}
+use Rattle.vn_cells.specs.declared.world.Stack.{Stack}
 use Rattle.vn_cells.specs.declared.world.World.{World}
-use Rattle.vn_cells.specs.Names.{Path, Key, path_cmp, key_cmp}
-use Rattle.vn_cells.specs.Table.{find, put_all, keys_in}
-use Rattle.vn_cells.specs.World.{no_stack, stack_at, pair_at}
-use Rattle.vn_cells.specs.Step.{step}
-use Rattle.vn_cells.specs.Sets.{in_set, in_stacks, in_pairs}
-use Rattle.vn_cells.specs.Changed.{same_tree, same, stack_code, pair_code, differs, listed, changed, touches}
-use Rattle.vn_laws.proofs.TableLaws.{found-put_all}
+use Rattle.vn_cells.specs.world.Names.{Path, Key, path_cmp, key_cmp}
+use Rattle.vn_types.specs.Entries.{find, put_all, keys_in}
+use Rattle.vn_cells.specs.world.World.{no_stack, stack_at, pair_at}
+use Rattle.vn_cells.specs.machine.Step.{step}
+use Rattle.vn_cells.specs.sets.Sets.{in_set, in_stacks, in_pairs}
+use Rattle.vn_cells.specs.sets.Changed.{same_tree, same, stack_code, pair_code, differs, listed, changed, touches}
+use Rattle.vn_types.proofs.EntryLaws.{found-put_all}
 use Rattle.vn_types.proofs.PathNames.{key_eq-Decides}
-use Rattle.vn_laws.proofs.Alike.{and_first, and_second, and_both}
+use Rattle.std.proofs.lemmas.Bool.{and_parts, and_from}
 
 -- ---- values are told apart by their codes
 
@@ -32,13 +33,13 @@ same_tree-refl : (t : Gv) → same_tree t t ≡ true
 unfolding same_tree
 same_tree-refl gnil = refl
 same_tree-refl (gnum n) = (Decides-eqb n n).1 refl
-same_tree-refl (gcons a b) = and_both _ _ (same_tree-refl a) (same_tree-refl b)
+same_tree-refl (gcons a b) = and_from _ _ (same_tree-refl a) (same_tree-refl b)
 
 same_tree-is : (t u : Gv) → same_tree t u ≡ true → t ≡ u
 unfolding same_tree
 same_tree-is gnil gnil h = refl
 same_tree-is (gnum m) (gnum n) h = ap gnum ((Decides-eqb m n).0 h)
-same_tree-is (gcons a b) (gcons c d) h = ap₂ gcons (same_tree-is a c (and_first _ _ h)) (same_tree-is b d (and_second _ _ h))
+same_tree-is (gcons a b) (gcons c d) h = ap₂ gcons (same_tree-is a c (and_parts _ _ h).0) (same_tree-is b d (and_parts _ _ h).1)
 same_tree-is gnil (gnum n) h = cc
 same_tree-is gnil (gcons c d) h = cc
 same_tree-is (gnum m) gnil h = cc
@@ -138,3 +139,34 @@ module _ (set : Cells) (v : World) (event : Event) (untouched : touches set v ev
       by : (b : Bool) → (is_some (find key_cmp k v.pairs) || is_some (find key_cmp k (step v event).pairs)) ≡ b → pair_at v k ≡ pair_at (step v event) k
       by true e = same-is (coded_option pair_code) _ _ (grind (arith, quiet (OfPair k.0 k.1) inside (pair_listed v (step v event) k e)))
       by false e = absent _ _ e
+
+-- ---- a stack of the set that is another after the event
+
+module _ (set : Cells) (w : World) (event : Event) (p : Path) (inside : in_stacks set p ≡ true)
+    (another : stack_at w p ≡ stack_at (step w event) p → ⊥) where
+  differs_there : differs w (step w event) (OfStack p) ≡ true
+  unfolding differs
+  differs_there = by (same stack_code (stack_at w p) (stack_at (step w event) p)) refl
+    where
+      by : (b : Bool) → same stack_code (stack_at w p) (stack_at (step w event) p) ≡ b → not b ≡ true
+      by false e = refl
+      by true e = absurd (another (same-is stack_code _ _ e))
+
+  -- it is listed, before or after
+  listed_there : (is_some (find path_cmp p w.stacks) || is_some (find path_cmp p (step w event).stacks)) ≡ true
+  unfolding stack_at
+  listed_there = by (is_some (find path_cmp p w.stacks) || is_some (find path_cmp p (step w event).stacks)) refl
+    where
+      neither : (a b : Option Stack) → (is_some a || is_some b) ≡ false → a ≡ b
+      neither None None e = refl
+      neither None (Some y) e = cc
+      neither (Some x) b e = cc
+
+      by : (b : Bool) → (is_some (find path_cmp p w.stacks) || is_some (find path_cmp p (step w event).stacks)) ≡ b → b ≡ true
+      by true e = refl
+      by false e = absurd (another (ap (λ o. unwrap_or o no_stack) (neither _ _ e)))
+
+  pub touched : touches set w event ≡ true
+  unfolding touches changed in_set
+  touched =
+      caught (in_set set) (differs w (step w event)) _ (OfStack p) inside differs_there (stack_listed w (step w event) p listed_there)

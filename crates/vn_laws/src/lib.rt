@@ -1,4 +1,5 @@
-//! The laws of the machine. Each law is the contract of a function that does nothing: to cite it, call it.
+//! The laws of the machine. Each law is the contract of a function that does nothing: to cite it,
+//! call it.
 #![tactic(auto)]
 
 mod isolation;

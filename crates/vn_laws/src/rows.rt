@@ -1,19 +1,22 @@
 ghost use Rattle.std.specs.Prelude.{◌≡◌, [], IsTrue};
 ghost use Rattle.vn_cells.specs.declared.script.Script.{Script as AnyScript};
-ghost use Rattle.vn_cells.specs.Step.{opening, run};
-ghost use Rattle.vn_cells.specs.Changed.{IsClosed};
-ghost use Rattle.vn_cells.specs.Schedule.{serial_run};
-ghost use Rattle.vn_cells.specs.Text.{text};
-ghost use Rattle.vn_laws.specs.WorkedRows.{has_no_line, jail_a, jail_a_b, only, family, twice, no_parent_no_room, child, empty_text, twice_text, no_parent_no_room_text};
+ghost use Rattle.vn_cells.specs.machine.Step.{opening, run};
+ghost use Rattle.vn_cells.specs.sets.Changed.{IsClosed};
+ghost use Rattle.vn_cells.specs.texts.Schedule.{serial_run};
+ghost use Rattle.vn_cells.specs.texts.Text.{text};
+ghost use Rattle.vn_laws.specs.WorkedRows.{has_no_line, jail_a, jail_a_b, only, family, twice, no_parent_no_room, child, two_children, grandchild};
+ghost use Rattle.vn_laws.specs.WorkedRows.{empty_text, twice_text, no_parent_no_room_text, two_children_text, grandchild_text};
 
-/// A script without lines runs to the opening world; and some histories, with the text that they leave
-/// octet for octet.
+/// A script without lines runs to the opening world; and some histories, with the text that they
+/// leave octet for octet.
 pub fn law_of_worked_rows()
     ensures no_line { (script : AnyScript) → IsTrue (has_no_line script) → serial_run script ≡ [] }
     ensures opening { run [] ≡ opening }
     ensures empty { text [] ≡ empty_text }
     ensures twice { text twice ≡ twice_text }
     ensures no_parent_no_room { text no_parent_no_room ≡ no_parent_no_room_text }
+    ensures two_children { text two_children ≡ two_children_text }
+    ensures grandchild { text grandchild ≡ grandchild_text }
 {}
 
 /// Sets that are closed in a history, and one that is not, since another jail's limit decides.

@@ -1,5 +1,5 @@
-use Rattle.vn_cells.specs.Step.{opening}
-use Rattle.vn_laws.proofs.Reach.{keeps-all}
+use Rattle.vn_cells.specs.machine.Step.{opening}
+use Rattle.vn_laws.proofs.Whole.{keeps-all}
 use Rattle.vn_laws.proofs.isolation.law_of_whole_projection.Goals as goal
 
 pub returns : goal.returns

@@ -4,12 +4,11 @@ use Rattle.std.specs.Bool.{Decides}
 use Rattle.std.specs.Ordering.{is_eq}
 use Rattle.std.proofs.lemmas.Bool.Decides.{Decides-eqb, Decides-and, Decides-like}
 use Rattle.vn_types.specs.declared.half.Half.{Half}
-use Rattle.vn_types.specs.declared.interface.Side.{Side}
 use Rattle.vn_types.specs.Interfaces.{side_eq}
 use Rattle.vn_types.specs.PathOrder.{path_ties, key_ties}
 use Rattle.vn_types.proofs.PathNames.{path_eq-Decides, key_eq-Decides}
 use Rattle.vn_types.proofs.InterfaceNames.{side_eq-Decides}
-use Rattle.vn_cells.specs.Names.{Path, Key, path_eq, path_cmp, key_cmp, half_eq}
+use Rattle.vn_cells.specs.world.Names.{Path, Key, path_eq, path_cmp, key_cmp, half_eq}
 
 pub half_eq-Decides : (g h : Half) → Decides (half_eq g h) (g ≡ h)
 unfolding half_eq

@@ -1,0 +1,224 @@
+-- One event: the world stays sound, a half that moves leaves nothing behind, and what belongs to a set still does.
+use Rattle.std.proofs.Common.{◌≡◌, ℕ, ◌+◌, Bool, true, false, ◌&&◌, ◌||◌, not, Option, Some, None, refl, sym, ap, ◌∙◌, subst, arith, ◌⊎◌, inl, inr}
+use Rattle.std.specs.Prelude.{if◌then◌else◌}
+use Rattle.std.specs.Option.{is_some, is_none}
+use Rattle.std.specs.List.{list_all}
+use Rattle.std.proofs.lemmas.Bool.{and_parts, true≢false}
+use Rattle.std.proofs.lemmas.Bool.Decides.{Decides-eqb}
+use Rattle.vn_types.specs.declared.errno.Errno.TheVariants as errno
+use Rattle.vn_types.specs.PathOrder.{path_eq-Decides}
+use Rattle.vn_types.proofs.Ancestors.{passes-above}
+use Rattle.vn_types.specs.declared.half.Half.{Half}
+use Rattle.vn_rules.specs.Rules.{Common, answer, answer_by, refused}
+use Rattle.vn_rules.specs.Scenes.{SceneOf}
+use Rattle.vn_cells.specs.declared.cell.Cells.{Cells}
+use Rattle.vn_cells.specs.declared.command.Command.{Command}
+use Rattle.vn_cells.specs.declared.event.Event.{Event}
+use Rattle.vn_cells.specs.declared.event.Event.TheVariants as event
+use Rattle.vn_cells.specs.declared.world.Children.{Children}
+use Rattle.vn_cells.specs.declared.world.Live.{Live}
+use Rattle.vn_cells.specs.declared.world.Stack.{Stack}
+use Rattle.vn_cells.specs.declared.world.World.{World}
+use Rattle.vn_cells.specs.world.Names.{Path, path_eq, is_host, is_below}
+use Rattle.vn_cells.specs.world.World.{common_of, stack_at, is_alive}
+use Rattle.vn_cells.specs.machine.Events.{is_valid_event}
+use Rattle.vn_cells.specs.machine.Reach.{Reach, Near, reach}
+use Rattle.vn_cells.specs.machine.Commands.{near_rule, far_rule}
+use Rattle.vn_cells.specs.machine.Local.{Here, local, near_answer, act}
+use Rattle.vn_cells.specs.machine.Step.{entered, ran_by, commanded, step}
+use Rattle.vn_cells.specs.sets.Sets.{in_set, command_deciders, deciders}
+use Rattle.vn_cells.specs.keeping.Sound.{IsSound, living_below, counts_right, is_number}
+use Rattle.vn_cells.specs.keeping.Moved.{LeavesNothing}
+use Rattle.vn_cells.specs.sets.Changed.{is_common}
+use Rattle.vn_laws.specs.Relations.{Alike, Belongs}
+use Rattle.vn_laws.proofs.edits.Alike.{alike-edit_stack}
+use Rattle.vn_laws.proofs.edits.Cells.{clock-edit_stack}
+use Rattle.vn_laws.proofs.edits.Counts.{one_living_less}
+use Rattle.vn_laws.proofs.edits.Shapes.{SameShape, shape_tree, sound-shape, leaves-shape, belongs-shape}
+use Rattle.vn_laws.proofs.edits.Standing.{leaves-none, leaves-then, leaves_nothing, leaves_nothing-same}
+use Rattle.vn_laws.proofs.edits.Trees.{alive_tree}
+use Rattle.vn_laws.proofs.local.Acted.{KeepsTables, sound_scene, sound_after, tree-act_by, standing-act_by, clock-act_by, belongs-act_by, sound-act_by}
+use Rattle.vn_laws.proofs.local.Alike.{alike-local}
+use Rattle.vn_laws.proofs.rule.Answers.{answered, shape-entered, reached, either_way, commanded-keeps}
+use Rattle.vn_laws.proofs.rule.Alike.{AlikeRules, alike-answered}
+use Rattle.vn_laws.proofs.jails.Alike.{alive_alike}
+use Rattle.vn_laws.proofs.Commands.{Fine, fine-far, belongs-far, alike-far, issuer_inside, IsNew, Lived, lived-same, lived-far, clock-far}
+
+-- ---- the machine's own rule keeps tables sound
+
+near-tables : (common : Common) (command : Command) (o : Option (SceneOf Half)) → sound_scene o ≡ true
+    → sound_after o (near_answer common command o).left ≡ true
+unfolding near_answer near_rule answer_by
+near-tables common command None e = refl
+near-tables common command (Some scene) e = e
+
+same-tables : (o : Option (SceneOf Half)) → sound_scene o ≡ true → sound_after o o ≡ true
+same-tables None e = refl
+same-tables (Some scene) e = e
+
+local-tables : (common : Common) (p : Path) (here : Here) (event : Event) → sound_scene here.scene ≡ true
+    → sound_after here.scene (local common p here event).scene ≡ true
+unfolding local
+local-tables common p here (event.Cmd lane path command) e = near-tables common command here.scene e
+local-tables common p here _ e = same-tables here.scene e
+
+tables-local : KeepsTables local
+tables-local = record { tables = local-tables }
+
+-- ---- soundness
+
+-- the world is sound, and no half that moved left anything
+pub record StepFine (v w : World) : Type 0 where
+  pub sound : IsSound w
+  pub nothing : LeavesNothing v w
+
+by_leaves : {v w : World} → Fine v w → StepFine v w
+by_leaves f = record { sound = f.sound; nothing = leaves_nothing f.leaves }
+
+fine-shape : {u v w : World} → Fine u v → SameShape v w → Fine u w
+fine-shape f t = record { sound = sound-shape f.sound t; leaves = leaves-then f.leaves (leaves-shape t) }
+
+fine-act : {v : World} → IsSound v → (p : Path) (event : Event) → StepFine v (act v p event)
+fine-act {v} s p event = record {
+  sound = sound-act_by tables-local s p event;
+  nothing = leaves_nothing-same (standing-act_by local v p event).pairs;
+}
+
+fine-none : {v : World} → IsSound v → Fine v v
+fine-none {v} s = record { sound = s; leaves = leaves-none v }
+
+pub fine-step : {v : World} → IsSound v → (event : Event) → is_valid_event event ≡ true → StepFine v (step v event)
+unfolding step
+fine-step {v} s (event.Cmd lane issuer command) valid =
+    either_way (StepFine v) lane issuer command v
+    (λ lives. reached (StepFine v) lane issuer command (reach issuer command) v
+    (fine-act s issuer (event.Cmd lane issuer command))
+    (by_leaves (fine-shape
+    (answered (Fine v) (far_rule (common_of v) issuer (reach issuer command) v) (fine-none s)
+    (fine-far s (common_of v) issuer (reach issuer command)))
+    (shape-entered v.clock lane issuer command _))))
+    (by_leaves (fine-shape (fine-none s) (shape-entered v.clock lane issuer command (refused errno.NoEnt v))))
+fine-step s _ valid = by_leaves (fine-none s)
+
+-- ---- what all cells share
+
+pub clock-step : (v : World) (event : Event) → is_common event ≡ false → (step v event).clock ≡ v.clock
+unfolding step
+clock-step v (event.Cmd lane issuer command) own =
+    commanded-keeps (λ w. w.clock ≡ v.clock) lane issuer command v refl
+    (λ a e. clock-edit_stack issuer _ _ ∙ e)
+    (clock-act_by local v issuer (event.Cmd lane issuer command))
+    (λ none. clock-far (common_of v) issuer (reach issuer command) v)
+clock-step v _ own = refl
+
+-- ---- a set
+
+-- a command's deciders are in the set
+abbrev pub Decided : Cells → Event → Type 0
+Decided set (event.Cmd lane issuer command) = list_all (in_set set) (command_deciders issuer (reach issuer command)) ≡ true
+Decided set _ = Unit {0}
+
+pub belongs-step : {set : Cells} {v : World} → Belongs set v → IsSound v → (event : Event) → Decided set event
+    → Belongs set (step v event)
+unfolding step
+belongs-step {set} {v} b s (event.Cmd lane issuer command) all =
+    commanded-keeps (Belongs set) lane issuer command v b
+    (λ a c. belongs-shape c (shape-entered v.clock lane issuer command a))
+    (belongs-act_by local v issuer (event.Cmd lane issuer command) b)
+    (belongs-far s set b (common_of v) issuer (reach issuer command) all)
+belongs-step b s _ all = b
+
+-- ---- two worlds
+
+module _ {set : Cells} {v w : World} (a : Alike set v w) (b : Belongs set v) (sv : IsSound v) (sw : IsSound w) where
+  alike-ran_by : (lane : ℕ) (issuer : Path) (command : Command) (r : Reach)
+      → list_all (in_set set) (command_deciders issuer r) ≡ true
+      → Alike set (ran_by lane issuer command r v) (ran_by lane issuer command r w)
+  unfolding ran_by command_deciders in_set
+  alike-ran_by lane issuer command Near all =
+      alike-local a local b issuer (event.Cmd lane issuer command) (and_parts _ true all).0
+  alike-ran_by lane issuer command r all = entered_alike r (alike-far a sv sw (common_of v) issuer r all)
+    where
+      entered_alike : (r : Reach) → AlikeRules set (far_rule (common_of v) issuer r v) (far_rule (common_of v) issuer r w)
+          → Alike set (entered v.clock lane issuer command (answer v (far_rule (common_of v) issuer r v)))
+          (entered w.clock lane issuer command (answer w (far_rule (common_of w) issuer r w)))
+      entered_alike r same =
+          subst (λ c. Alike set (entered v.clock lane issuer command (answer v (far_rule (common_of v) issuer r v)))
+          (entered c lane issuer command (answer w (far_rule (record { clock = c }) issuer r w)))) a.clock
+          (alike-answered a v.clock lane issuer command _ _ same)
+
+  alike-commanded : (lane : ℕ) (issuer : Path) (command : Command)
+      → list_all (in_set set) (command_deciders issuer (reach issuer command)) ≡ true
+      → Alike set (commanded lane issuer command v) (commanded lane issuer command w)
+  unfolding commanded
+  alike-commanded lane issuer command all =
+      subst (λ l. Alike set (commanded lane issuer command v)
+      (if l then ran_by lane issuer command (reach issuer command) w else entered w.clock lane issuer command (refused errno.NoEnt w)))
+      (alive_alike a sv sw issuer (issuer_inside set issuer (reach issuer command) all))
+      (by (is_alive v issuer))
+    where
+      dead : Alike set (entered v.clock lane issuer command (refused errno.NoEnt v)) (entered w.clock lane issuer command (refused errno.NoEnt w))
+      dead = subst (λ c. Alike set (entered v.clock lane issuer command (refused errno.NoEnt v)) (entered c lane issuer command (refused errno.NoEnt w)))
+          a.clock (alike-edit_stack a issuer _)
+
+      by : (l : Bool)
+          → Alike set (if l then ran_by lane issuer command (reach issuer command) v else entered v.clock lane issuer command (refused errno.NoEnt v))
+          (if l then ran_by lane issuer command (reach issuer command) w else entered w.clock lane issuer command (refused errno.NoEnt w))
+      by true = alike-ran_by lane issuer command (reach issuer command) all
+      by false = dead
+
+  pub alike-step : (event : Event) → list_all (in_set set) (deciders v event) ≡ true → Alike set (step v event) (step w event)
+  unfolding step deciders
+  alike-step (event.Cmd lane issuer command) all = alike-commanded lane issuer command all
+  alike-step _ all = a
+
+-- ---- who is new
+
+lived-shape : {u v w : World} → Lived u v → SameShape v w → Lived u w
+lived-shape {u} {v} {w} l t = record { of = λ q h. by q (l.of q (sym (alive_tree (shape_tree t) q) ∙ h)) }
+  where
+    by : (q : Path) → (is_alive u q ≡ true) ⊎ IsNew u v q → (is_alive u q ≡ true) ⊎ IsNew u w q
+    by q (inl e) = inl e
+    by q (inr n) = inr (record { before = n.before; alive = λ r. alive_tree (shape_tree t) r ∙ n.alive r })
+
+pub lived-step : (v : World) (event : Event) → Lived v (step v event)
+unfolding step
+lived-step v (event.Cmd lane issuer command) =
+    commanded-keeps (Lived v) lane issuer command v (lived-same (λ q. refl))
+    (λ a l. lived-shape l (shape-entered v.clock lane issuer command a))
+    (lived-same (alive_tree (tree-act_by local v issuer (event.Cmd lane issuer command))))
+    (lived-far (common_of v) issuer (reach issuer command))
+lived-step v _ = lived-same (λ q. refl)
+
+-- a new jail is told to each ancestor other than host
+pub born_told : {v w : World} → IsSound v → IsSound w → (q r : Path) → IsNew v w q → is_host r ≡ false → is_below q r ≡ true
+    → stack_at v r ≡ stack_at w r → ⊥
+born_told {v} {w} s t q r n top below same =
+    let more : living_below w r ≡ living_below v r + 1 = one_living_less w v q t.tree.stacks_ordered s.tree.stacks_ordered new before r below in
+    by (stack_at w r).live (passes-above (is_alive w) t.tree.parents q r new (and_parts _ _ below).0)
+    (ap (λ (u : Stack). counts_right (living_below v r) r u.live) (sym same) ∙ s.tree.counted r) (t.tree.counted r) more
+  where
+    new : is_alive w q ≡ true
+    new = n.alive q ∙ ap (λ b. b || is_alive v q) ((path_eq-Decides q q).1 refl)
+
+    before : (x : Path) → is_alive v x ≡ (is_alive w x && not (path_eq x q))
+    before x = pick (path_eq x q) refl ∙ ap (λ b. b && not (path_eq x q)) (sym (n.alive x))
+      where
+        pick : (b : Bool) → path_eq x q ≡ b → is_alive v x ≡ ((b || is_alive v x) && not b)
+        pick true e = ap (is_alive v) ((path_eq-Decides x q).0 e) ∙ n.before
+        pick false e = grind arith
+
+    numbers : (m k : ℕ) (c : Option Children) → is_number m c ≡ true → is_number k c ≡ true → m ≡ k
+    numbers m k None e f = cc
+    numbers m k (Some children) e f = sym ((Decides-eqb children.living m).0 e) ∙ (Decides-eqb children.living k).0 f
+
+    by : (o : Option Live) → is_some o ≡ true → counts_right (living_below v r) r o ≡ true → counts_right (living_below w r) r o ≡ true
+        → living_below w r ≡ living_below v r + 1 → ⊥
+    by None e f g h = absurd (true≢false (sym e))
+    by (Some live) e f g h =
+        let first : is_number (living_below v r) live.children ≡ true =
+        sym (ap (λ b. if b then is_none live.children else is_number (living_below v r) live.children) top) ∙ f in
+        let second : is_number (living_below w r) live.children ≡ true =
+        sym (ap (λ b. if b then is_none live.children else is_number (living_below w r) live.children) top) ∙ g in
+        let equal : living_below v r ≡ living_below w r = numbers (living_below v r) (living_below w r) live.children first second in
+        omega arith

@@ -1,0 +1,10 @@
+-- What each edit of a world leaves.
+pub mod Names
+pub mod Lists
+pub mod Cells
+pub mod Counts
+pub mod Trees
+pub mod Standing
+pub mod Shapes
+pub mod Alike
+pub mod NamesOnce

@@ -1,0 +1,4 @@
+-- The events that act in one stack.
+pub mod Placed
+pub mod Acted
+pub mod Alike

@@ -1,0 +1,3 @@
+-- What holds of any rule of the world.
+pub mod Answers
+pub mod Alike
