@@ -1,6 +1,4 @@
 pub mod Edits
-pub mod Up
-pub mod Creations
-mod Arms
+pub mod Upwards
 mod Commands
 mod Runs

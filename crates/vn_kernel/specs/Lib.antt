@@ -1,4 +1,3 @@
 pub mod Rows
 pub mod Worlds
-pub mod Answers
 pub mod Machines

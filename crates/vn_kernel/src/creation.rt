@@ -1,49 +1,92 @@
-ghost use Rattle.std.specs.Prelude.{◌≡◌, ℕ, None, IfOk, OnOk};
-ghost use Rattle.vn_cells.specs.Refusal.{creation_refusal};
-ghost use Rattle.vn_cells.specs.Step.{created};
-ghost use Rattle.vn_kernel.specs.Worlds.{world_of};
+ghost use Rattle.std.specs.Prelude.{◌≡◌, ℕ, None, false, IfOk, OnOk};
+ghost use Rattle.vn_types.specs.Paths.{above, first_or_host};
+ghost use Rattle.vn_types.specs.Refusals.{first_refusal};
+ghost use Rattle.vn_rules.specs.Rules.{Common};
+ghost use Rattle.vn_cells.specs.commands.Jails.{any_full, created, creation};
+ghost use Rattle.vn_cells.specs.world.World.{is_alive};
+ghost use Rattle.vn_kernel.specs.Worlds.{IsUpwards, one_more_in_each};
 
-use crate::ancestors::{any_full, count_in_ancestors};
-use crate::stacks::{Stacks, construct, is_alive};
-use std::alloc::Global;
+use crate::state::State;
 use vn_cells::Children;
-use vn_types::{Errno, NoMemory, Path};
+use vn_types::{Errno, List, NoMemory, Path};
+
+/// A path's ancestors other than host, from its parent upwards.
+pub(crate) fn ancestors(state: &State, path: &Path) -> Result<List<Path>, NoMemory>
+    ensures { IfOk result (λ ps. ps ≡ above path.now) }
+{
+    let mut ancestors = List::new(state.allocator());
+    let mut ancestor = path.parent()?;
+    while ancestor.depth() > 0 {
+        let next = ancestor.parent()?;
+        ancestors.push(ancestor)?;
+        ancestor = next;
+    }
+    Ok(ancestors)
+}
 
 /// Why a jail can't be made, if so: the first condition in this order that holds.
-pub(crate) fn creation_refusal(stacks: &Stacks, jail: &Path) -> Result<Option<Errno>, NoMemory>
-    ensures { IfOk result (λ r. (clock : ℕ) → r ≡ creation_refusal (world_of clock stacks.now.entries) jail.now) }
+pub(crate) fn creation_refusal(state: &State, jail: &Path, ancestors: &[Path]) -> Option<Errno>
+    requires { ancestors.now ≡ above jail.now }
+    ensures { (common : Common) (limit : ℕ)
+        → result ≡ first_refusal (creation common jail.now limit state.now).refusals }
 {
-    let parent = jail.parent()?;
-    if !is_alive(stacks, &parent) {
-        return Ok(Some(Errno::NoEnt));
+    if !is_parent_alive(state, ancestors) {
+        return Some(Errno::NoEnt);
     }
-    if is_alive(stacks, jail) {
-        return Ok(Some(Errno::Exist));
+    if state.is_alive(jail) {
+        return Some(Errno::Exist);
     }
-    if any_full(stacks, jail)? {
-        return Ok(Some(Errno::Perm));
+    if is_any_full(state, ancestors) {
+        return Some(Errno::Perm);
     }
-    Ok(None)
+    None
+}
+
+/// Whether the first of a path's ancestors lives, which is host where there is no other.
+fn is_parent_alive(state: &State, ancestors: &[Path]) -> bool
+    ensures { result ≡ is_alive state.now (first_or_host ancestors.now) }
+{
+    match ancestors {
+        [parent, ..] => state.is_alive(parent),
+        [] => state.is_alive(&Path::host(state.allocator())),
+    }
+}
+
+/// Whether one of these jails has at least as many living descendants as its limit.
+#[tactic(auto, unfolding(vn_cells::specs::commands::Jails::any_full))]
+fn is_any_full(state: &State, jails: &[Path]) -> bool
+    ensures { result ≡ any_full state.now jails.now }
+{
+    jails.iter().any(|jail| state.is_full(jail))
 }
 
 /// Makes a jail that nothing refuses.
 pub(crate) fn create(
-    alloc: Global,
-    stacks: &mut Stacks,
-    clock: u64,
-    jail: &Path,
+    state: &mut State,
+    jail: Path,
+    ancestors: &[Path],
     limit: u32,
 ) -> Result<(), NoMemory>
-    requires { creation_refusal (world_of clock stacks.old.entries) jail.now ≡ None }
-    ensures { OnOk result (world_of clock stacks.new.entries ≡ created clock jail.now limit (world_of clock stacks.old.entries)) }
+    requires ancestors { ancestors.now ≡ above jail }
+    requires free { (common : Common)
+        → first_refusal (creation common jail limit state.old).refusals ≡ None }
+    ensures { OnOk result (state.new ≡ created state.old.clock jail limit state.old) }
 {
-    count_in_ancestors(stacks, jail)?;
-    construct(
-        alloc,
-        stacks,
-        clock,
-        jail,
-        Some(Children { limit, living: 0 }),
-    )?;
-    Ok(())
+    count_in(state, ancestors);
+    state.construct(jail, Some(Children { limit, living: 0 }))
+}
+
+/// Counts one living descendant more of each of these jails, the topmost first.
+fn count_in(state: &mut State, jails: &[Path])
+    requires upwards { IsUpwards jails.now }
+    requires room { any_full state.old jails.now ≡ false }
+    ensures { state.new ≡ one_more_in_each jails.now state.old }
+{
+    match jails {
+        [] => {}
+        [jail, above @ ..] => {
+            count_in(state, above);
+            state.count_descendant(jail);
+        }
+    }
 }

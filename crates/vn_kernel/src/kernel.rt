@@ -1,23 +1,18 @@
-ghost use Rattle.std.specs.Prelude.{◌≡◌, ◌↔◌, ◌≤◌, ℕ, None, Some, Ok, Err, true, length, map, is_some, IfOk, OnOk};
-ghost use Rattle.std.specs.List.{filter};
-ghost use Rattle.vn_cells.specs.Clean.{IsEachPrefixClean};
-ghost use Rattle.vn_cells.specs.Events.{IsValidEvent};
-ghost use Rattle.vn_cells.specs.Reports.{has_entry, report_of, section_of};
-ghost use Rattle.vn_cells.specs.Step.{run};
+ghost use Rattle.std.specs.Prelude.{◌≡◌, ◌↔◌, ◌≤◌, ℕ, None, Some, Ok, Err, true, length, is_some, IfOk, OnOk};
+ghost use Rattle.vn_cells.specs.keeping.Clean.{IsEachPrefixClean};
+ghost use Rattle.vn_cells.specs.machine.Events.{IsValidEvent, is_built};
+ghost use Rattle.vn_cells.specs.texts.Reports.{report_of};
+ghost use Rattle.vn_cells.specs.machine.Step.{run};
 ghost use Rattle.vn_kernel.specs.Machines.{IsLong, opened, spent, stepped};
 ghost use Rattle.vn_kernel.specs.declared.kernel.StepFault.TheVariants.{Long as TooLong, NoMemory as Wanting};
 
 use crate::events::happen;
-use crate::stacks::{Stacks, construct};
+use crate::state::State;
 use std::alloc::Global;
-use std::collections::BTreeMap;
 use std::marker::Model;
-use vn_cells::{Event, History, Report, SectionText};
+use vn_cells::{EVENTS_MAX, Event, History, Report};
 use vn_laws::law_of_clean_histories;
-use vn_types::{List, NoMemory, Path};
-
-/// How many events a history may have.
-const EVENTS_MAX: u64 = 200_000;
+use vn_types::{NoMemory, Path};
 
 /// Why an event could not happen.
 #[derive(Drop)]
@@ -28,25 +23,30 @@ pub enum StepFault {
     Long(u64),
 }
 
+impl From<NoMemory> for StepFault {
+    ghost from_gives = { λ _ fault. fault ≡ Wanting };
+
+    fn from(_: NoMemory) -> StepFault {
+        StepFault::NoMemory
+    }
+}
+
 /// The stacks of all paths, and the history that led to them.
 #[derive(Drop)]
 pub struct Kernel {
-    alloc: Global,
-    clock: u64,
-    stacks: Stacks,
+    state: State,
     history: History,
     spent: bool,
 }
 
 impl Model for Kernel {
-    ghost use Rattle.std.specs.Prelude.{◌≤◌, length};
-    ghost use Rattle.vn_kernel.specs.Machines.{Machine, IsRun, kept_world};
+    ghost use Rattle.vn_kernel.specs.Machines.{Machine, IsKept, kept};
 
     ghost Value = { Machine };
 
-    ghost view = { λ a. record { world = kept_world a.spent a.clock a.stacks.entries; events = a.history } };
+    ghost view = { λ a. record { world = kept a.spent a.state; events = a.history } };
 
-    ghost invariant = { λ a. IsRun (kept_world a.spent a.clock a.stacks.entries) a.history × (length a.history ≤ 200000) };
+    ghost invariant = { λ a. IsKept (kept a.spent a.state) a.history };
 }
 
 impl Kernel {
@@ -54,21 +54,19 @@ impl Kernel {
     pub fn new(alloc: Global) -> Result<Kernel, NoMemory>
         ensures opened { IfOk result (λ k. k ≡ opened) }
     {
-        let mut stacks = BTreeMap::new(alloc);
-        let host = Path::host(alloc);
-        construct(alloc, &mut stacks, 0, &host, None)?;
+        let mut state = State::new(alloc);
+        state.construct(Path::host(alloc), None)?;
         Ok(Kernel {
-            alloc,
-            clock: 0,
-            stacks,
+            state,
             history: History::new(alloc),
             spent: false,
         })
     }
 
-    /// Lets an event happen.
+    /// Lets an event happen. The kernel is spent until it has.
     pub fn step(&mut self, event: Event) -> Result<(), StepFault>
-        requires { IsValidEvent event }
+        requires valid { IsValidEvent event }
+        requires built { is_built event ≡ true }
         ensures done { OnOk result (self.new ≡ stepped event self.old) }
         ensures ran { OnOk result (self.new.world ≡ Some (run self.new.events)) }
         ensures clean { IsEachPrefixClean self.new.events }
@@ -85,21 +83,17 @@ impl Kernel {
         if events >= EVENTS_MAX {
             return Err(StepFault::Long(events));
         }
-        let Ok(()) = happen(self.alloc, &mut self.stacks, self.clock, &event) else {
-            self.spent = true;
-            return Err(StepFault::NoMemory);
-        };
-        let Ok(()) = self.history.push(event) else {
-            self.spent = true;
-            return Err(StepFault::NoMemory);
-        };
+        self.spent = true;
+        happen(&mut self.state, &event)?;
+        self.history.push(event)?;
+        self.spent = false;
         Ok(())
     }
 
     /// The number of events.
     pub fn events(&self) -> u64
         ensures count { result ≡ length self.now.events }
-        ensures most { result ≤ 200000 }
+        ensures most { result ≤ EVENTS_MAX }
     {
         self.history.len()
     }
@@ -119,16 +113,14 @@ impl Kernel {
     {
         law_of_clean_histories();
         let Kernel {
-            alloc,
-            clock: _,
-            stacks,
+            state,
             history,
             spent,
         } = self;
         if spent {
             return Err(NoMemory);
         }
-        let sections = sections_of(alloc, stacks)?;
+        let sections = state.into_sections()?;
         Ok(Report {
             history,
             sections,
@@ -136,18 +128,4 @@ impl Kernel {
             kept: 0,
         })
     }
-}
-
-/// The transcripts that are not empty, in the order of their paths.
-fn sections_of(alloc: Global, stacks: Stacks) -> Result<List<SectionText>, NoMemory>
-    ensures { IfOk result (λ r. r ≡ map section_of (filter (λ s. has_entry s.1.entries) stacks.entries)) }
-{
-    let mut sections = List::new(alloc);
-    for (path, row) in stacks {
-        let entries = row.into_entries();
-        if !entries.is_empty() {
-            sections.push(SectionText { path, entries })?;
-        }
-    }
-    Ok(sections)
 }

@@ -2,12 +2,11 @@
 //! machine.
 #![tactic(auto)]
 
-mod ancestors;
 mod creation;
 mod events;
 mod kernel;
 mod row;
-mod stacks;
+mod state;
 
 pub use kernel::{Kernel, StepFault};
 

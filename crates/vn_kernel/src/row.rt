@@ -1,9 +1,8 @@
 ghost use Rattle.std.specs.Prelude.{◌≡◌, ◌<◌, ◌^◌, true, false, [], ◌∷◌, ◌++◌, map, IfOk, OnOk, is_some};
 ghost use Rattle.vn_types.specs.Words.{is_name};
 ghost use Rattle.vn_rules.specs.Construction.{constructor_rows};
-ghost use Rattle.vn_cells.specs.World.{no_stack, noting};
-ghost use Rattle.vn_cells.specs.Refusal.{is_full};
-ghost use Rattle.vn_cells.specs.Step.{construct, init_entry, one_more_below};
+ghost use Rattle.vn_cells.specs.world.World.{no_stack, noting};
+ghost use Rattle.vn_cells.specs.commands.Jails.{construct, init_entry, is_full, one_more_below};
 
 use std::alloc::Global;
 use std::marker::Model;
@@ -98,13 +97,12 @@ impl Row {
     /// Runs the constructors, each with its entry, and lets the stack live.
     pub(crate) fn construct(
         &mut self,
-        alloc: Global,
         clock: u64,
         children: Option<Children>,
     ) -> Result<(), NoMemory>
         ensures { OnOk result (self.new ≡ construct clock children self.old) }
     {
-        note_constructors(alloc, &mut self.entries, clock)?;
+        note_constructors(&mut self.entries, clock)?;
         self.life = match children {
             None => Life::Host,
             Some(children) => Life::Jail(children),
@@ -115,35 +113,35 @@ impl Row {
 
 /// The entries of the constructors, in the order of their table (VNET(9)).
 #[tactic(auto, unfolding(vn_types::specs::Words::is_name))]
-fn note_constructors(alloc: Global, entries: &mut List<Entry>, clock: u64) -> Result<(), NoMemory>
+fn note_constructors(entries: &mut List<Entry>, clock: u64) -> Result<(), NoMemory>
     ensures { OnOk result (entries.new ≡ entries.old ++ map (init_entry clock) constructor_rows) }
 {
-    note_init(alloc, entries, clock, "vnet_data")?;
-    note_init(alloc, entries, clock, "vnet_if")?;
-    note_init(alloc, entries, clock, "vnet_cloner")?;
-    note_init(alloc, entries, clock, "loif")?;
-    note_init(alloc, entries, clock, "inaddr")?;
-    note_init(alloc, entries, clock, "route")?;
-    note_init(alloc, entries, clock, "arp")?;
-    note_init(alloc, entries, clock, "ip")?;
-    note_init(alloc, entries, clock, "icmp")?;
-    note_init(alloc, entries, clock, "udp")?;
-    note_init(alloc, entries, clock, "vnet_if_return")?;
+    note_init(entries, clock, "vnet_data")?;
+    note_init(entries, clock, "vnet_if")?;
+    note_init(entries, clock, "vnet_cloner")?;
+    note_init(entries, clock, "loif")?;
+    note_init(entries, clock, "inaddr")?;
+    note_init(entries, clock, "route")?;
+    note_init(entries, clock, "arp")?;
+    note_init(entries, clock, "ip")?;
+    note_init(entries, clock, "icmp")?;
+    note_init(entries, clock, "udp")?;
+    note_init(entries, clock, "vnet_if_return")?;
     Ok(())
 }
 
 /// The entry of one constructor.
 #[tactic(auto, unfolding(vn_types::specs::NameWords::name_of))]
 fn note_init(
-    alloc: Global,
     entries: &mut List<Entry>,
     clock: u64,
-    constructor: &str,
+    constructor: &'static str,
 ) -> Result<(), NoMemory>
     requires { is_name constructor.now ≡ true }
-    ensures { OnOk result (entries.new ≡ entries.old ++ record { clock = clock; what = What.Init constructor.now } ∷ []) }
+    ensures { OnOk result (entries.new
+        ≡ entries.old ++ record { clock = clock; what = What.Init constructor.now } ∷ []) }
 {
-    let Some(name) = Name::read(alloc, constructor.as_bytes())? else {
+    let Some(name) = Name::fixed(constructor.as_bytes()) else {
         unreachable!();
     };
     entries.push(Entry {

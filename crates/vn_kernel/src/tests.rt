@@ -1,23 +1,23 @@
 use super::*;
 use std::test::Fail;
 use vn_cells::{Command, Entry, Event, Outcome, What};
-use vn_types::{Errno, read_path};
+use vn_types::{Errno, Path, read_path};
 
 /// The event that lane 1 makes a jail with a limit.
 fn creation(rt: &HostRuntime, issuer: &str, path: &str, children_max: u32) -> Result<Event, Fail> {
-    let issuer = read_path(rt.alloc(), issuer.as_bytes())
-        .ok()
-        .ok_or("no memory")?
-        .ok_or("no path")?;
-    let path = read_path(rt.alloc(), path.as_bytes())
-        .ok()
-        .ok_or("no memory")?
-        .ok_or("no path")?;
     Ok(Event::Cmd {
         lane: 1,
-        path: issuer,
-        command: Command::JailCreate { path, children_max },
+        path: path_of(rt, issuer)?,
+        command: Command::JailCreate {
+            path: path_of(rt, path)?,
+            children_max,
+        },
     })
+}
+
+fn path_of(rt: &HostRuntime, text: &str) -> Result<Path, Fail> {
+    let path = read_path(rt.alloc(), text.as_bytes());
+    Ok(path.ok().ok_or("no memory")?.ok_or("no path")?)
 }
 
 /// The errno of an entry that a refused command left, if it is one.
@@ -47,13 +47,15 @@ fn jails_are_made_below_living_jails_with_room(rt: HostRuntime) -> Result<(), Fa
         if !event.is_valid() {
             return Err("no valid event".into());
         }
+        if !event.is_built() {
+            return Err("no event that is built".into());
+        }
         kernel.step(event).ok().ok_or("no step")?;
     }
-    assert_eq!(rt; kernel.events(), 5);
     assert_eq!(rt; kernel.history().len(), 5);
     let report = kernel.finish().ok().ok_or("no memory")?;
     assert_eq!(rt; report.history.len(), 5);
-    // host, a and a.b: the entries of 11 constructors, and then the answers of the commands run there
+    // The entries of 11 constructors in host, a and a.b, and then the answers of the commands there.
     let rows: [(usize, &[Option<Errno>]); 3] = [
         (14, &[None, Some(Errno::Exist), Some(Errno::NoEnt)]),
         (13, &[None, Some(Errno::Perm)]),

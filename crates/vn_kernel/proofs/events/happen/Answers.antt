@@ -1,10 +1,17 @@
 use Rattle.std.proofs.Common.{◌≡◌, OnOk, subst}
-use Rattle.vn_kernel.specs.Worlds.{world_of}
-use Rattle.vn_kernel.proofs.Arms.{step_of, valid_of}
+use Rattle.vn_kernel.proofs.Commands.{built_of, only_commands, step_of, valid_of}
 use Rattle.vn_kernel.proofs.events.happen.Goals as goal
 
-pub run_command-requires : goal.run_command-requires
-run_command-requires c = valid_of c.args.event.now _ _ c.requires
+pub run_command-requires-clause-valid : goal.run_command-requires-clause-valid
+run_command-requires-clause-valid c = valid_of c.args.event.now _ _ _ c.in-Cmd.is c.requires.valid
+
+pub run_command-requires-clause-built : goal.run_command-requires-clause-built
+run_command-requires-clause-built c = built_of c.args.event.now _ _ _ c.in-Cmd.is c.requires.built
+
+pub unreachable-requires : goal.unreachable-requires
+unreachable-requires c = only_commands c.args.event.now c.in_default.not-Cmd c.requires.built
 
 pub returns : goal.returns
-returns c = subst (λ x. OnOk c.run_command.result (world_of c.args.clock c.run_command.new.stacks.entries ≡ x)) (step_of (world_of c.args.clock c.args.stacks.now.entries) c.args.event.now _ _ _) c.run_command.ensures
+returns c =
+    subst (λ w. OnOk c.run_command.result (c.run_command.new.state ≡ w))
+    (step_of c.args.state.now c.args.event.now _ _ _ c.in-Cmd.is) c.run_command.ensures

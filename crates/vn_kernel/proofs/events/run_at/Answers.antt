@@ -1,24 +1,18 @@
-use Rattle.std.proofs.Common.{sym, ap, ◌∙◌}
-use Rattle.vn_cells.specs.Refusal.{creation_refusal}
-use Rattle.vn_kernel.specs.Worlds.{world_of}
-use Rattle.vn_kernel.proofs.Arms.{effect_of, joins, outcome_of, refusal_of}
-use Rattle.vn_kernel.proofs.Commands.{dead, done, refused}
+use Rattle.std.proofs.lemmas.Result.{IfOk-weaker}
+use Rattle.vn_kernel.proofs.Commands.{answered_at, dead, joins, only_creation}
 use Rattle.vn_kernel.proofs.events.run_at.Goals as goal
 
 pub join-requires : goal.join-requires
-join-requires c = joins c.args.issuer.now c.args.command.now _ c.requires
+join-requires c = joins c.args.issuer.now c.args.command.now _ _ c.in-JailCreate.is c.requires.valid
+
+pub unreachable-requires : goal.unreachable-requires
+unreachable-requires c = only_creation c.args.command.now c.in_default.not-JailCreate c.requires.built
 
 pub returns-then-not-is_alive : goal.returns-then-not-is_alive
-returns-then-not-is_alive c = refused c.args.clock c.args.issuer.now c.args.command.now _ _ (dead c.args.clock c.args.stacks.now.entries c.args.issuer.now c.args.command.now (sym c.is_alive.ensures ∙ c.if-not-is_alive.true))
-
-pub returns-in-Some : goal.returns-in-Some
-returns-in-Some c = refused c.args.clock c.args.issuer.now c.args.command.now _ _
-    (refusal_of c.args.clock c.args.stacks.now.entries c.args.issuer.now c.args.command.now _ (sym c.is_alive.ensures ∙ c.if-not-is_alive.false)
-    ∙ ap (creation_refusal (world_of c.args.clock c.args.stacks.now.entries)) (sym c.in_ok-jail.ensures) ∙ sym (c.in_ok-errno.ensures c.args.clock) ∙ c.in-Some.is)
+returns-then-not-is_alive c = λ lane. dead c.args.state.now c.args.issuer.now c.args.command.now lane c.if-not-is_alive.ensures
 
 pub returns : goal.returns
-returns c = done c.args.clock c.args.issuer.now c.args.command.now _ (world_of c.args.clock c.args.stacks.now.entries) _
-    (refusal_of c.args.clock c.args.stacks.now.entries c.args.issuer.now c.args.command.now _ (sym c.is_alive.ensures ∙ c.if-not-is_alive.false)
-    ∙ ap (creation_refusal (world_of c.args.clock c.args.stacks.now.entries)) (sym c.in_ok-jail.ensures) ∙ sym (c.in_ok-errno.ensures c.args.clock) ∙ c.in_default.is)
-    (outcome_of (world_of c.args.clock c.args.stacks.now.entries) c.args.issuer.now c.args.command.now)
-    (effect_of c.args.clock (world_of c.args.clock c.args.stacks.now.entries) _ c.args.issuer.now _ c.args.command.now _ _ c.in_ok-jail.ensures c.in_ok-create.ensures)
+returns c =
+    IfOk-weaker c.make_jail.result _ _
+    (λ outcome is. answered_at c.args.state.now c.make_jail.new.state c.args.issuer.now c.in_ok-jail-in-JailCreate.jail c.args.command.now _ _ outcome c.in-JailCreate.is c.if-not-is_alive.ensures c.in_ok-jail-in-JailCreate.ensures is)
+    c.make_jail.ensures
