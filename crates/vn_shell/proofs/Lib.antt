@@ -1,7 +1,6 @@
 pub mod Splitting
-pub mod NameWords
 pub mod Settings
-pub mod LineWords
+pub mod Room
+pub mod Meanings
+pub mod LaneLines
 pub mod Scripts
-pub mod Valid
-pub mod Few

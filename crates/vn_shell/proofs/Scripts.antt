@@ -3,11 +3,12 @@ use Rattle.std.proofs.Common.{◌≡◌, ℕ, ◌+◌, ◌==◌, true, false, Li
 use Rattle.std.proofs.lemmas.Bool.Decides.{nat_tests}
 use Rattle.vn_cells.specs.declared.script.LaneLine.{LaneLine}
 use Rattle.vn_cells.specs.declared.script.Part.{Part}
-use Rattle.vn_cells.specs.declared.script.Part.TheVariants.{Phase}
+use Rattle.vn_cells.specs.declared.script.Part.TheVariants as part
 use Rattle.vn_shell.specs.declared.script.Reason.{Reason}
 use Rattle.vn_shell.specs.declared.script.ScriptFault.{ScriptFault}
-use Rattle.vn_shell.specs.declared.script.ScriptFault.TheVariants.{Script as Refused, NoMemory}
-use Rattle.vn_shell.specs.Grammar.{put_before, with_line, lane_lines_from, lines_of, line_of, phases, script_of}
+use Rattle.vn_shell.specs.declared.script.ScriptFault.TheVariants as fault
+use Rattle.vn_shell.specs.Words.{lines_of}
+use Rattle.vn_shell.specs.Grammar.{put_before, with_line, lane_lines_from, line_of, phases, script_of}
 use Rattle.vn_shell.specs.Readings.{Refuses, RefusesAt, IsPut, no_parts}
 
 pub phases_none : (ls : List LaneLine) → (length ls == 0) ≡ true → [] ≡ phases ls
@@ -15,7 +16,7 @@ unfolding phases
 phases_none [] h = refl
 phases_none (l ∷ ls) h = absurd (grind (arith, nat_tests))
 
-pub phases_some : (ls : List LaneLine) → (length ls == 0) ≡ false → Phase ls ∷ [] ≡ phases ls
+pub phases_some : (ls : List LaneLine) → (length ls == 0) ≡ false → part.Phase ls ∷ [] ≡ phases ls
 unfolding phases
 phases_some [] h = cc
 phases_some (l ∷ ls) h = refl
@@ -61,8 +62,8 @@ refused_with n (Err q) old after r h = let s : q ≡ r = cc in let at : Reason �
 -- the first line that is refused
 pub next_refused : (whole : Reading) (n : ℕ) (rest line more : List ℕ) (old : List LaneLine) (e : ScriptFault) → whole ≡ put_before old (lane_lines_from (n + 1) (lines_of rest)) → lines_of rest ≡ line ∷ lines_of more → RefusesAt (n + 1) (line_of line) e
     → Refuses whole e
-next_refused whole n rest line more old NoMemory so_far first why = tt
-next_refused whole n rest line more old (Refused number reason) so_far first why =
+next_refused whole n rest line more old fault.NoMemory so_far first why = tt
+next_refused whole n rest line more old (fault.Script number reason) so_far first why =
     so_far ∙ ap (λ ls. put_before old (lane_lines_from (n + 1) ls)) first ∙ ap (put_before old) (lane_lines-cons (n + 1) line (lines_of more))
     ∙ refused_with (n + 1) (line_of line) old (lane_lines_from (n + 1 + 1) (lines_of more)) reason why.1
     ∙ (let at : ℕ → Reading = λ k. Err (k, reason) in ap at (sym why.0))
@@ -79,8 +80,8 @@ script_is t ls ps h e = rw (h, ← e) refl
 
 pub script_refused : (t : List ℕ) (e : ScriptFault) → Refuses (lane_lines_from 1 (lines_of t)) e → Refuses (script_of t) e
 unfolding script_of
-script_refused t NoMemory h = tt
-script_refused t (Refused number reason) h = rw h refl
+script_refused t fault.NoMemory h = tt
+script_refused t (fault.Script number reason) h = rw h refl
 
 pub empty_script : script_of [] ≡ Ok no_parts
 unfolding script_of lane_lines_from lines_of phases

@@ -1,109 +1,122 @@
--- `vnet` and `persist` taken out of some words: one word is left where there were three.
-use Rattle.std.proofs.Common.{◌≡◌, ℕ, ◌+◌, Bool, true, false, cond, ◌&&◌, ◌||◌, List, [], ◌∷◌, length, Option, Some, None, refl, ap, ◌∙◌, arith}
-use Rattle.std.specs.Prelude.{codes, IfSome}
-use Rattle.std.specs.Option.{option_map}
+-- The settings of `jail -c` read word by word are those of the definition.
+use Rattle.std.proofs.Common.{◌≡◌, ℕ, ◌+◌, ◌==◌, Bool, true, false, cond, ◌&&◌, ◌||◌, List, [], ◌∷◌, ◌++◌, Option, Some, None, refl, ap, ◌∙◌, arith, zero-add}
+use Rattle.std.specs.Prelude.{codes, is_some, filter_map}
+use Rattle.std.specs.List.{list_all, cons_option}
+use Rattle.std.specs.Option.{option_to_list}
 use Rattle.std.specs.Str.{bytes_eq}
+use Rattle.std.proofs.lemmas.Bool.{and_right}
+use Rattle.std.proofs.lemmas.Bool.Decides.{nat_tests}
+use Rattle.std.proofs.lemmas.List.Sums.{sum_by-cons}
 use Rattle.std.proofs.lemmas.Slice.Eq.{bytes_eq-Decides}
+use Rattle.vn_types.specs.Paths.{Path}
 use Rattle.vn_types.specs.Steps.{◌>>=◌}
-use Rattle.vn_shell.specs.Grammar.{without, only, name_of, settings_of}
-use Rattle.vn_shell.specs.Flags.{are_flags, beside_flags}
+use Rattle.vn_shell.specs.declared.command.jail.Settings.{Settings}
+use Rattle.vn_shell.specs.Commands.Jail.{name_of, is_setting, times, only, settings_of, no_settings, with_name, with_word, path_in}
 
-abbrev Words : Type 0
-Words = List (List ℕ)
+-- the path, where words follow those that were read
+abbrev pub path_after : Settings → List (List ℕ) → Option Path
+path_after settings [] = path_in settings
+path_after settings (word ∷ words) = with_word settings word >>= λ more. path_after more words
 
-abbrev is_vnet : List ℕ → Bool
-is_vnet w = bytes_eq w (codes "vnet")
+-- ---- no word is two settings
 
-abbrev is_persist : List ℕ → Bool
-is_persist w = bytes_eq w (codes "persist")
+nameless_vnet : name_of (codes "vnet") ≡ None
+unfolding name_of
+nameless_vnet = refl
 
--- ---- how many words there were
+nameless_persist : name_of (codes "persist") ≡ None
+unfolding name_of
+nameless_persist = refl
 
-without-length : (word : List ℕ) (ws : Words) → IfSome (without word ws) (λ rest. length ws ≡ length rest + 1)
-unfolding without
-without-length word [] = tt
-without-length word (w ∷ ws) = by (bytes_eq w word) (without word ws) (without-length word ws)
+-- what the tests of a word may answer
+pub record Alone (vnet persist : Bool) (name : Option Path) : Type 0 where
+  pub vnet_alone : vnet ≡ true → (persist ≡ false) × (name ≡ None)
+  pub persist_alone : persist ≡ true → name ≡ None
+
+pub alone : (word : List ℕ) → Alone (bytes_eq word (codes "vnet")) (bytes_eq word (codes "persist")) (name_of word)
+alone word = record {
+  vnet_alone = λ e. (ap (λ w. bytes_eq w (codes "persist")) (same (codes "vnet") e), ap name_of (same (codes "vnet") e) ∙ nameless_vnet);
+  persist_alone = λ e. ap name_of (same (codes "persist") e) ∙ nameless_persist;
+}
   where
-    by : (b : Bool) (o : Option Words) → IfSome o (λ rest. length ws ≡ length rest + 1) → IfSome (cond b (Some ws) (option_map (λ rest. w ∷ rest) o)) (λ rest. length (w ∷ ws) ≡ length rest + 1)
-    by true o h = omega arith
-    by false None h = tt
-    by false (Some rest) h = omega arith
+    same : (text : List ℕ) → bytes_eq word text ≡ true → word ≡ text
+    same text e = (bytes_eq-Decides word text).0 e
 
-left_two : (ws : Words) (o : Option Words) → IfSome o (λ rest. length ws ≡ length rest + 1) → IfSome (o >>= only) (λ w. length ws ≡ 2)
-left_two ws None h = tt
-left_two ws (Some []) h = tt
-left_two ws (Some (w ∷ [])) h = omega arith
-left_two ws (Some (w ∷ v ∷ rest)) h = tt
+-- ---- counts
 
-some_more : (o : Option (List ℕ)) (P Q : Type 0) → (P → Q) → IfSome o (λ w. P) → IfSome o (λ w. Q)
-some_more None P Q f h = tt
-some_more (Some w) P Q f h = f h
+abbrev pub once : Bool → ℕ
+once b = cond b 1 0
 
-left_three : (ws : Words) (o : Option Words) → IfSome o (λ rest. length ws ≡ length rest + 1) → IfSome (o >>= without (codes "persist") >>= only) (λ w. length ws ≡ 3)
-left_three ws None h = tt
-left_three ws (Some rest) h = some_more _ (length rest ≡ 2) (length ws ≡ 3) (λ two. omega arith) (left_two rest (without (codes "persist") rest) (without-length (codes "persist") rest))
+-- the path, where words were counted
+abbrev counted : ℕ → ℕ → Bool → List Path → Option Path
+counted vnet persist known names = cond (vnet == 1 && persist == 1 && known) (only names) None
 
-pub settings_not_three : (ws : Words) → (length ws ≡ 3 → ⊥) → None ≡ settings_of ws
-unfolding settings_of
-settings_not_three ws ne = by (without (codes "vnet") ws >>= without (codes "persist") >>= only) (left_three ws (without (codes "vnet") ws) (without-length (codes "vnet") ws))
+twice_no : (n : ℕ) → (1 + (1 + n) == 1) ≡ false
+twice_no n = grind (arith, nat_tests)
+
+vnet_twice : (n m : ℕ) (known : Bool) (names : List Path) → None ≡ counted (1 + (1 + n)) m known names
+vnet_twice n m known names = rw (twice_no n) refl
+
+persist_twice : (n m : ℕ) (known : Bool) (names : List Path) → None ≡ counted n (1 + (1 + m)) known names
+persist_twice n m known names = by (n == 1)
   where
-    by : (o : Option (List ℕ)) → IfSome o (λ w. length ws ≡ 3) → None ≡ (o >>= name_of)
-    by None h = refl
-    by (Some w) h = absurd (ne h)
+    by : (b : Bool) → None ≡ cond (b && (1 + (1 + m) == 1) && known) (only names) None
+    by true = rw (twice_no m) refl
+    by false = refl
 
--- ---- three words
+unknown : (n m : ℕ) (known : Bool) (names : List Path) → known ≡ false → None ≡ counted n m known names
+unknown n m known names e = rw (and_right (n == 1 && m == 1) known e) refl
 
-without_two : (word a b : List ℕ) (x y : Bool) → bytes_eq a word ≡ x → bytes_eq b word ≡ y → (without word (a ∷ b ∷ []) >>= only) ≡ cond x (Some b) (cond y (Some a) None)
-unfolding without
-without_two word a b true y e f = rw e refl
-without_two word a b false true e f = rw (e, f) refl
-without_two word a b false false e f = rw (e, f) refl
+named_twice : (n m : ℕ) (known : Bool) (path other : Path) (names : List Path) → None ≡ counted n m known (path ∷ other ∷ names)
+named_twice n m known path other names = by (n == 1 && m == 1 && known)
+  where
+    by : (b : Bool) → None ≡ cond b (only (path ∷ other ∷ names)) None
+    by true = refl
+    by false = refl
 
-without_three : (word a b c : List ℕ) (x y z : Bool) → bytes_eq a word ≡ x → bytes_eq b word ≡ y → bytes_eq c word ≡ z
-    → without word (a ∷ b ∷ c ∷ []) ≡ cond x (Some (b ∷ c ∷ [])) (cond y (Some (a ∷ c ∷ [])) (cond z (Some (a ∷ b ∷ [])) None))
-unfolding without
-without_three word a b c true y z e f g = rw e refl
-without_three word a b c false true z e f g = rw (e, f) refl
-without_three word a b c false false true e f g = rw (e, f, g) refl
-without_three word a b c false false false e f g = rw (e, f, g) refl
+-- ---- word by word
 
--- no word is both
-apart : (w : List ℕ) (x y : Bool) → is_vnet w ≡ x → is_persist w ≡ y → (x && y) ≡ false
-apart w false y e f = refl
-apart w true false e f = refl
-apart w true true e f = absurd (omega (arith, ap length ((bytes_eq-Decides w (codes "vnet")).0 e), ap length ((bytes_eq-Decides w (codes "persist")).0 f)))
+-- what was read, by its parts
+abbrev with_all : Bool → Bool → Option Path → Settings
+with_all vnet persist name = record { vnet = vnet; persist = persist; name = name }
 
-picked : (a b c : List ℕ) (va pa vb pb vc pc : Bool) → (va && pa) ≡ false → (vb && pb) ≡ false
-    → (without (codes "persist") (b ∷ c ∷ []) >>= only) ≡ cond pb (Some c) (cond pc (Some b) None)
-    → (without (codes "persist") (a ∷ c ∷ []) >>= only) ≡ cond pa (Some c) (cond pc (Some a) None)
-    → (without (codes "persist") (a ∷ b ∷ []) >>= only) ≡ cond pa (Some b) (cond pb (Some a) None)
-    → (cond va (Some (b ∷ c ∷ [])) (cond vb (Some (a ∷ c ∷ [])) (cond vc (Some (a ∷ b ∷ [])) None)) >>= without (codes "persist") >>= only)
-    ≡ cond ((va && pb) || (pa && vb)) (Some c) (cond ((va && pc) || (pa && vc)) (Some b) (cond ((vb && pc) || (pb && vc)) (Some a) None))
-picked a b c true true vb pb vc pc g h bc ac ab = cc
-picked a b c true false vb true vc pc g h bc ac ab = bc
-picked a b c true false vb false vc true g h bc ac ab = bc
-picked a b c true false true false vc false g h bc ac ab = bc
-picked a b c true false false false vc false g h bc ac ab = bc
-picked a b c false pa true true vc pc g h bc ac ab = cc
-picked a b c false true true false vc pc g h bc ac ab = ac
-picked a b c false false true false vc true g h bc ac ab = ac
-picked a b c false false true false vc false g h bc ac ab = ac
-picked a b c false true false pb true pc g h bc ac ab = ab
-picked a b c false false false true true pc g h bc ac ab = ab
-picked a b c false false false false true pc g h bc ac ab = ab
-picked a b c false true false true false pc g h bc ac ab = refl
-picked a b c false true false false false pc g h bc ac ab = refl
-picked a b c false false false true false pc g h bc ac ab = refl
-picked a b c false false false false false pc g h bc ac ab = refl
+-- what is known of the words behind: they are counted
+abbrev Counts : (Settings → Option Path) → ℕ → ℕ → Bool → List Path → Type 0
+Counts behind n m known names = (s : Settings) → behind s ≡ counted (once s.vnet + n) (once s.persist + m) known (option_to_list s.name ++ names)
 
-flags_three : (a b c : List ℕ) → (without (codes "vnet") (a ∷ b ∷ c ∷ []) >>= without (codes "persist") >>= only) ≡ beside_flags a b c
-unfolding beside_flags are_flags
-flags_three a b c =
-    ap (λ o. o >>= without (codes "persist") >>= only) (without_three (codes "vnet") a b c (is_vnet a) (is_vnet b) (is_vnet c) refl refl refl)
-    ∙ picked a b c (is_vnet a) (is_persist a) (is_vnet b) (is_persist b) (is_vnet c) (is_persist c) (apart a _ _ refl refl) (apart b _ _ refl refl)
-    (without_two (codes "persist") b c (is_persist b) (is_persist c) refl refl) (without_two (codes "persist") a c (is_persist a) (is_persist c) refl refl)
-    (without_two (codes "persist") a b (is_persist a) (is_persist b) refl refl)
+-- a word more in front, by what its tests answer
+counts-word : (behind : Settings → Option Path) (n m : ℕ) (known : Bool) (names : List Path) → Counts behind n m known names
+    → (is_vnet is_persist : Bool) (o : Option Path) → Alone is_vnet is_persist o → (v p : Bool) (name : Option Path)
+    → (cond is_vnet (cond v None (Some (with_all true p name))) (cond is_persist (cond p None (Some (with_all v true name))) (with_name (with_all v p name) o)) >>= behind)
+    ≡ counted (once v + (once is_vnet + n)) (once p + (once is_persist + m)) ((is_vnet || is_persist || is_some o) && known) (option_to_list name ++ cons_option o names)
+counts-word behind n m known names h true is_persist o a true p name = vnet_twice n _ _ _
+counts-word behind n m known names h true is_persist o a false p name =
+    h (with_all true p name) ∙ rw (zero-add (1 + n), (a.vnet_alone refl).0, (a.vnet_alone refl).1, zero-add m) refl
+counts-word behind n m known names h false true o a v true name = persist_twice _ m _ _
+counts-word behind n m known names h false true o a v false name =
+    h (with_all v true name) ∙ rw (zero-add (1 + m), a.persist_alone refl, zero-add n) refl
+counts-word behind n m known names h false false None a v p name = unknown (once v + (0 + n)) (once p + (0 + m)) false (option_to_list name ++ names) refl
+counts-word behind n m known names h false false (Some path) a v p None = h (with_all v p (Some path)) ∙ rw (zero-add n, zero-add m) refl
+counts-word behind n m known names h false false (Some path) a v p (Some other) = named_twice (once v + (0 + n)) (once p + (0 + m)) known other path names
 
-pub settings_three : (a b c : List ℕ) → settings_of (a ∷ b ∷ c ∷ []) ≡ (beside_flags a b c >>= name_of)
+no_words : (v p : Bool) (name : Option Path) → path_in (with_all v p name) ≡ counted (once v + 0) (once p + 0) true (option_to_list name ++ [])
+no_words true true None = refl
+no_words true true (Some path) = refl
+no_words true false name = refl
+no_words false p name = refl
+
+pub times-word : (text word : List ℕ) (words : List (List ℕ)) → times text (word ∷ words) ≡ once (bytes_eq word text) + times text words
+times-word text word words = sum_by-cons (λ other. once (bytes_eq other text)) word words
+
+path_after-is : (words : List (List ℕ)) (s : Settings)
+    → path_after s words ≡ counted (once s.vnet + times (codes "vnet") words) (once s.persist + times (codes "persist") words) (list_all is_setting words) (option_to_list s.name ++ filter_map name_of words)
+unfolding with_word
+path_after-is [] s = no_words s.vnet s.persist s.name
+path_after-is (word ∷ words) s =
+    rw (times-word (codes "vnet") word words, times-word (codes "persist") word words)
+    (counts-word (λ more. path_after more words) (times (codes "vnet") words) (times (codes "persist") words) (list_all is_setting words) (filter_map name_of words)
+    (path_after-is words) (bytes_eq word (codes "vnet")) (bytes_eq word (codes "persist")) (name_of word) (alone word) s.vnet s.persist s.name)
+
+pub whole_settings : (words : List (List ℕ)) → path_after no_settings words ≡ settings_of words
 unfolding settings_of
-settings_three a b c = ap (λ o. o >>= name_of) (flags_three a b c)
+whole_settings words = path_after-is words no_settings ∙ rw (zero-add (times (codes "vnet") words), zero-add (times (codes "persist") words)) refl

@@ -1,16 +1,17 @@
 -- Lines and words, taken from a text one by one.
-use Rattle.std.proofs.Common.{◌≡◌, ℕ, ◌+◌, ◌==◌, Bool, true, false, cond, List, [], ◌∷◌, length, take, drop, Some, None, refl, sym, ap, ◌∙◌, arith}
+use Rattle.std.proofs.Common.{◌≡◌, ℕ, ◌+◌, ◌==◌, Bool, true, false, cond, List, [], ◌∷◌, ◌++◌, length, take, drop, Some, None, refl, sym, ap, ◌∙◌, arith}
 use Rattle.std.specs.Prelude.{position}
-use Rattle.std.specs.List.{slice_split, onto_first}
+use Rattle.std.specs.List.{filter, slice_split, onto_first}
 use Rattle.std.proofs.lemmas.Bool.Decides.{nat_tests}
+use Rattle.vn_types.specs.Octets.{newline, space}
 use Rattle.vn_types.proofs.Cuts.{cut_at, cut_nowhere}
-use Rattle.vn_shell.specs.Grammar.{lines_of, words_of}
+use Rattle.vn_shell.specs.Words.{lines_of, is_filled, words_of}
 
 abbrev at_end : ℕ → Bool
-at_end c = c == 10
+at_end c = c == newline
 
 abbrev at_space : ℕ → Bool
-at_space c = c == 32
+at_space c = c == space
 
 -- ---- lines are the pieces between their ends, but for a last piece that is empty
 
@@ -56,7 +57,7 @@ ended-onto c (l ∷ m ∷ ls) = refl
 lines_of-split : (t : List ℕ) → lines_of t ≡ ended (slice_split at_end t)
 unfolding lines_of
 lines_of-split [] = refl
-lines_of-split (c ∷ t) = by (c == 10) (lines_of-split t)
+lines_of-split (c ∷ t) = by (c == newline) (lines_of-split t)
   where
     by : (b : Bool) → lines_of t ≡ ended (slice_split at_end t) → cond b ([] ∷ lines_of t) (onto_first c (lines_of t)) ≡ ended (cond b ([] ∷ slice_split at_end t) (onto_first c (slice_split at_end t)))
     by true e = ap (λ ls. [] ∷ ls) e ∙ sym (ended-more [] (slice_split at_end t) (some-split at_end t))
@@ -82,25 +83,11 @@ lines_last (c ∷ t) n h = lines_of-split (c ∷ t) ∙ ap ended (cut_nowhere at
 
 -- ---- words
 
-no_words : words_of [] ≡ []
+pub words_cut : (t piece more : List ℕ) → slice_split at_space t ≡ piece ∷ slice_split at_space more → words_of t ≡ filter is_filled (piece ∷ []) ++ words_of more
 unfolding words_of
-no_words = refl
+words_cut t [] more e = rw e refl
+words_cut t (c ∷ piece) more e = rw e refl
 
-pub words_skip : (t piece more : List ℕ) → slice_split at_space t ≡ piece ∷ slice_split at_space more → (length piece == 0) ≡ true → words_of t ≡ words_of more
+pub words_last : (t : List ℕ) → slice_split at_space t ≡ t ∷ [] → words_of t ≡ filter is_filled (t ∷ [])
 unfolding words_of
-words_skip t [] more e h = rw e refl
-words_skip t (c ∷ piece) more e h = absurd (grind (arith, nat_tests))
-
-pub words_cut : (t piece more : List ℕ) → slice_split at_space t ≡ piece ∷ slice_split at_space more → (length piece == 0) ≡ false → words_of t ≡ piece ∷ words_of more
-unfolding words_of
-words_cut t [] more e h = cc
-words_cut t (c ∷ piece) more e h = rw e refl
-
-pub words_none : (t : List ℕ) → (length t == 0) ≡ true → words_of t ≡ []
-words_none [] h = no_words
-words_none (c ∷ t) h = absurd (grind (arith, nat_tests))
-
-pub words_last : (t : List ℕ) → slice_split at_space t ≡ t ∷ [] → (length t == 0) ≡ false → words_of t ≡ t ∷ words_of []
-unfolding words_of
-words_last [] e h = cc
-words_last (c ∷ t) e h = rw e refl
+words_last t e = ap (filter is_filled) e

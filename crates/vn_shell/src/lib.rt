@@ -1,7 +1,8 @@
 //! Scripts, as they are read.
 #![tactic(auto)]
 
-mod creation;
+mod command;
+mod fault;
 mod lines;
 mod script;
 #[cfg(test)]

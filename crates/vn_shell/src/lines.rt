@@ -1,13 +1,18 @@
-ghost use Rattle.std.specs.Prelude.{◌≡◌, ◌<◌, ◌∷◌, [], ◌&&◌, nat_le, length, if◌then◌else◌, IfOk, IfSome, IfNone};
-ghost use Rattle.std.specs.List.{list_all};
-ghost use Rattle.vn_shell.specs.Grammar.{lines_of, words_of, lane_of, is_form, lane_line, words_line, is_text, is_comment, line_of};
+//! Lines of a script.
 
-use crate::creation::read_creation;
+ghost use Rattle.std.specs.Prelude.{◌≡◌, ◌<◌, ◌∷◌, [], length, IfSome, IfNone};
+ghost use Rattle.std.specs.List.{list_all};
+ghost use Rattle.vn_shell.specs.Grammar.{no_lane, issuer_of, issued_by, line_of_words, is_printable, is_text, is_comment, line_of};
+ghost use Rattle.vn_shell.specs.Readings.{Gives, GivesBy};
+ghost use Rattle.vn_shell.specs.Words.{lines_of, texts};
+
+use crate::command::{named_depth, read_command};
+use crate::fault::LineFault;
 use crate::script::Reason;
-use crate::words::{next_word, place_of};
+use crate::words::{cut_words, is_form, read_lane};
 use std::alloc::Global;
 use vn_cells::{Command, LaneLine, Line};
-use vn_types::{NoMemory, read_path};
+use vn_types::{Path, place_of, read_path};
 
 /// The most octets that a line has, without its end.
 const MOST_OCTETS: usize = 4096;
@@ -30,25 +35,23 @@ pub(crate) fn next_line(text: &[u8]) -> Option<(&[u8], &[u8])>
     }
 }
 
-/// What a line means: nothing where it is skipped, and else a line of a lane, or the first reason to
-/// refuse it.
-pub(crate) fn read_line(
-    alloc: Global,
-    line: &[u8],
-) -> Result<Result<Option<LaneLine>, Reason>, NoMemory>
-    ensures { IfOk result (λ r. r ≡ line_of line.now) }
+/// What a line means, and nothing where it is skipped.
+#[tactic(auto, unfolding(crate::specs::Grammar::line_of))]
+pub(crate) fn read_line(alloc: Global, line: &[u8]) -> Result<Option<LaneLine>, LineFault>
+    ensures { Gives result (line_of line.now) }
 {
     if !is_text(line) {
-        return Ok(Err(Reason::Text));
+        return Err(LineFault::Refused(Reason::Text));
     }
     if is_comment(line) {
-        return Ok(Ok(None));
+        return Ok(None);
     }
-    read_words(alloc, line)
+    let words = cut_words(alloc, line)?;
+    read_words(alloc, words.as_slice())
 }
 
 fn are_printable(line: &[u8]) -> bool
-    ensures { result ≡ list_all (λ c. nat_le 32 c && nat_le c 126) line.now }
+    ensures { result ≡ list_all is_printable line.now }
 {
     line.iter().all(|c| 0x20 <= *c && *c <= 0x7e)
 }
@@ -64,46 +67,30 @@ fn is_text(line: &[u8]) -> bool
 fn is_comment(line: &[u8]) -> bool
     ensures { result ≡ is_comment line.now }
 {
-    match line {
-        [first, ..] => *first == b'#',
-        [] => false,
-    }
+    matches!(line, [b'#', ..])
 }
 
-fn read_words(alloc: Global, line: &[u8]) -> Result<Result<Option<LaneLine>, Reason>, NoMemory>
-    ensures { IfOk result (λ r. r ≡ words_line (words_of line.now)) }
+/// What the words of a line mean.
+#[tactic(auto, unfolding(crate::specs::Grammar::line_of_words))]
+fn read_words(alloc: Global, words: &[&[u8]]) -> Result<Option<LaneLine>, LineFault>
+    ensures { Gives result (line_of_words (texts words.now)) }
 {
-    let Some((word, rest)) = next_word(line) else {
-        return Ok(Ok(None));
+    let [word, words @ ..] = words else {
+        return Ok(None);
     };
-    let Some(lane) = read_lane(word) else {
-        return Ok(Err(no_lane(word)));
-    };
-    match read_lane_line(alloc, lane, rest)? {
-        Ok(line) => Ok(Ok(Some(line))),
-        Err(reason) => Ok(Err(reason)),
-    }
-}
-
-#[tactic(auto, unfolding(crate::specs::Grammar::lane_of))]
-fn read_lane(word: &[u8]) -> Option<u8>
-    ensures { result ≡ lane_of word.now }
-{
-    match word {
-        [digit] => {
-            if b'1' <= *digit && *digit <= b'8' {
-                Some(*digit - b'0')
-            } else {
-                None
-            }
-        }
-        _ => None,
-    }
+    let lane = read_lane(word).ok_or(no_lane(word))?;
+    let (path, words) = read_issuer(alloc, words)?;
+    let command = read_issued(alloc, &path, words)?;
+    Ok(Some(LaneLine {
+        lane,
+        path,
+        line: Line::Cmd(command),
+    }))
 }
 
 /// Why a line is refused whose first word is no lane.
 fn no_lane(word: &[u8]) -> Reason
-    ensures { result ≡ (if is_form word.now then Reason.Command else Reason.Lane) }
+    ensures { result ≡ no_lane word.now }
 {
     if is_form(word) {
         return Reason::Command;
@@ -111,39 +98,29 @@ fn no_lane(word: &[u8]) -> Reason
     Reason::Lane
 }
 
-#[tactic(auto, unfolding(crate::specs::Grammar::is_form))]
-fn is_form(word: &[u8]) -> bool
-    ensures { result ≡ is_form word.now }
+/// The path that issues a command, and the words behind it.
+#[tactic(auto, unfolding(crate::specs::Grammar::issuer_of))]
+fn read_issuer<'w, 'a>(
+    alloc: Global,
+    words: &'w [&'a [u8]],
+) -> Result<(Path, &'w [&'a [u8]]), LineFault>
+    ensures { GivesBy (λ r. (r.0, texts r.1.now)) result (issuer_of (texts words.now)) }
 {
-    word == b"phase".as_slice() || word == b"settle".as_slice() || word == b"sleep".as_slice()
+    let [word, words @ ..] = words else {
+        return Err(LineFault::Refused(Reason::Path));
+    };
+    let path = read_path(alloc, word)?.ok_or(Reason::Path)?;
+    Ok((path, words))
 }
 
-/// The line that the words after the lane make.
-fn read_lane_line(
-    alloc: Global,
-    lane: u8,
-    text: &[u8],
-) -> Result<Result<LaneLine, Reason>, NoMemory>
-    ensures { IfOk result (λ r. r ≡ lane_line lane (words_of text.now)) }
+/// The command that a path issues: no path has more than 8 labels, seen from host.
+#[tactic(auto, unfolding(crate::specs::Grammar::issued_by))]
+fn read_issued(alloc: Global, issuer: &Path, words: &[&[u8]]) -> Result<Command, LineFault>
+    ensures { Gives result (issued_by issuer.now (texts words.now)) }
 {
-    let Some((word, rest)) = next_word(text) else {
-        return Ok(Err(Reason::Path));
-    };
-    let Some(issuer) = read_path(alloc, word)? else {
-        return Ok(Err(Reason::Path));
-    };
-    let Some(path) = read_creation(alloc, rest)? else {
-        return Ok(Err(Reason::Command));
-    };
-    if issuer.depth() + path.depth() > MOST_LABELS {
-        return Ok(Err(Reason::Depth));
+    let command = read_command(alloc, words)?.ok_or(Reason::Command)?;
+    if issuer.depth() + named_depth(&command) > MOST_LABELS {
+        return Err(LineFault::Refused(Reason::Depth));
     }
-    Ok(Ok(LaneLine {
-        lane,
-        path: issuer,
-        line: Line::Cmd(Command::JailCreate {
-            path,
-            children_max: 0,
-        }),
-    }))
+    Ok(command)
 }

@@ -1,7 +1,9 @@
-ghost use Rattle.std.specs.Prelude.{◌≡◌, ◌+◌, ◌*◌, ◌≤◌, [], length, IfOk, IfErr, OnOk};
-ghost use Rattle.vn_cells.specs.Events.{IsValid};
-ghost use Rattle.vn_shell.specs.Grammar.{lines_of, lane_lines_from, line_of, script_of, phases};
+ghost use Rattle.std.specs.Prelude.{◌≡◌, ◌+◌, ◌*◌, ◌≤◌, [], length, IfOk, IfErr, OnOk, Ok};
+ghost use Rattle.vn_cells.specs.machine.Events.{IsBuilt, IsValid};
+ghost use Rattle.vn_shell.specs.Grammar.{lane_lines_from, line_of, script_of, phases};
 ghost use Rattle.vn_shell.specs.Readings.{Refuses, RefusesAt, IsPut, lane_lines, events_of, no_parts};
+ghost use Rattle.vn_shell.specs.Words.{lines_of};
+ghost use Rattle.vn_shell.specs.declared.script.ScriptFault.TheVariants.{NoMemory as Lack};
 
 use crate::lines::{next_line, read_line};
 use std::alloc::Global;
@@ -32,6 +34,14 @@ pub enum ScriptFault {
     NoMemory,
 }
 
+impl From<NoMemory> for ScriptFault {
+    ghost from_gives = { λ _ e. e ≡ Lack };
+
+    fn from(_lack: NoMemory) -> ScriptFault {
+        ScriptFault::NoMemory
+    }
+}
+
 /// Reads a script. A line ends with octet 0x0a or with the text, and its words stand between spaces.
 /// A line without words, or whose first octet is `#`, is skipped. Any other is a line of a lane:
 /// `LANE PATH jail -c name=P vnet persist`, where LANE is `1` to `8`, the path P is seen from PATH,
@@ -43,16 +53,14 @@ pub fn read_script(alloc: Global, text: &[u8]) -> Result<Script, ScriptFault>
     ensures empty { script_of [] ≡ Ok no_parts }
     // Each line is an event that can happen.
     ensures valid { IfOk result (λ s. IsValid (events_of s)) }
+    // And one that the program runs.
+    ensures built { IfOk result (λ s. IsBuilt (events_of s)) }
     // A lane line has at least 31 octets beside its end.
     ensures few { IfOk result (λ s. 32 * length (lane_lines s) ≤ length text.now + 1) }
 {
-    match read_lines(alloc, text) {
-        Ok(lines) => match in_phase(alloc, lines) {
-            Ok(parts) => Ok(Script { parts }),
-            Err(_) => Err(ScriptFault::NoMemory),
-        },
-        Err(fault) => Err(fault),
-    }
+    let lines = read_lines(alloc, text)?;
+    let parts = in_phase(alloc, lines)?;
+    Ok(Script { parts })
 }
 
 /// One phase of all lines, unless there is none.
@@ -62,7 +70,7 @@ fn in_phase(alloc: Global, lines: List<LaneLine>) -> Result<List<Part>, NoMemory
     if lines.is_empty() {
         return Ok(List::new(alloc));
     }
-    let mut parts = List::new(alloc);
+    let mut parts = List::with_capacity(alloc, 1)?;
     parts.push(Part::Phase(lines))?;
     Ok(parts)
 }
@@ -77,33 +85,21 @@ fn read_lines(alloc: Global, text: &[u8]) -> Result<List<LaneLine>, ScriptFault>
     let mut rest = text;
     while let Some((line, more)) = next_line(rest) {
         number += 1;
-        if let Err(fault) = put_line(&mut lines, number, line) {
-            return Err(fault);
-        }
+        put_line(number, line, &mut lines)?;
         rest = more;
     }
     Ok(lines)
 }
 
 /// Puts a line at the end, where it is not skipped.
-fn put_line(lines: &mut List<LaneLine>, number: u64, line: &[u8]) -> Result<(), ScriptFault>
+fn put_line(number: u64, line: &[u8], lines: &mut List<LaneLine>) -> Result<(), ScriptFault>
     ensures ok { OnOk result (IsPut (line_of line.now) lines.old lines.new) }
     ensures script { IfErr result (λ e. RefusesAt number (line_of line.now) e) }
 {
-    let Ok(meaning) = read_line(lines.allocator(), line) else {
-        return Err(ScriptFault::NoMemory);
-    };
-    match meaning {
-        Ok(None) => Ok(()),
-        Ok(Some(lane_line)) => {
-            if lines.push(lane_line).is_err() {
-                return Err(ScriptFault::NoMemory);
-            }
-            Ok(())
-        }
-        Err(reason) => Err(ScriptFault::Script {
-            line: number,
-            reason,
-        }),
+    match read_line(lines.allocator(), line) {
+        Ok(Some(lane_line)) => lines.push(lane_line)?,
+        Ok(None) => {}
+        Err(fault) => return Err(fault.at(number)),
     }
+    Ok(())
 }

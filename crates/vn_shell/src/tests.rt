@@ -5,9 +5,7 @@ use vn_cells::{Command, Line, Part, Script};
 use vn_types::{Path, write_path};
 
 fn put_path(path: &Path, out: &mut Vec<u8>) -> Result<(), Fail> {
-    if write_path(path, out).is_err() {
-        out.extend_from_slice(b"no memory")?;
-    }
+    write_path(path, out).ok().ok_or("no memory")?;
     out.extend_from_slice(b" ")?;
     Ok(())
 }
@@ -15,10 +13,14 @@ fn put_path(path: &Path, out: &mut Vec<u8>) -> Result<(), Fail> {
 // Each phase, and each of its lines as its lane, its path, and the path and the limit that it names.
 fn put_script(script: &Script, out: &mut Vec<u8>) -> Result<(), Fail> {
     for part in script.parts.as_slice() {
-        let Part::Phase(lines) = part;
+        let Part::Phase(lines) = part else {
+            return Err("no phase".into());
+        };
         out.extend_from_slice(b"phase ")?;
         for lane_line in lines.as_slice() {
-            let Line::Cmd(Command::JailCreate { path, children_max }) = &lane_line.line;
+            let Line::Cmd(Command::JailCreate { path, children_max }) = &lane_line.line else {
+                return Err("no jail".into());
+            };
             out.extend_from_slice(&[lane_line.lane.wrapping_add(b'0'), b' '])?;
             put_path(&lane_line.path, out)?;
             put_path(path, out)?;
@@ -68,13 +70,21 @@ fn scripts_are_read(rt: HostRuntime) -> Result<(), Fail> {
         ("\nsettle\n1", "2 command"),
         ("1\n9", "1 path"),
         ("1 a..b jail -c name=a vnet persist", "1 path"),
+        ("1 A jail -c name=a vnet persist", "1 path"),
         ("1 host jail -c name=a vnet persist now", "1 command"),
         ("1 host jail -c name=a vnet vnet", "1 command"),
+        ("1 host jail -c name=a persist", "1 command"),
+        ("1 host jail -c name=a name=b vnet persist", "1 command"),
+        ("1 host jail -r a", "1 command"),
         (
             "1 host jail -c name=a vnet persist children.max=3",
             "1 command",
         ),
         ("1 host jail -c name=host vnet persist", "1 command"),
+        (
+            "1 host jail -c name=a.b.c.d.e.f.g.h.i vnet persist",
+            "1 command",
+        ),
         (
             "1 a.b.c.d jail -c name=a.b.c.d vnet persist",
             "phase 1 a.b.c.d a.b.c.d - ",
