@@ -9,12 +9,23 @@ use Rattle.vn_types.specs.Paths.{path_text}
 use Rattle.vn_cells.specs.declared.event.Event.{Event}
 use Rattle.vn_cells.specs.declared.report.Report.{Report}
 use Rattle.vn_cells.specs.declared.transcript.Entry.{Entry}
-use Rattle.vn_cells.specs.Names.{Path}
-use Rattle.vn_cells.specs.Text.{entry_line, event_text, history_text, limit_text, line, section_text}
+use Rattle.vn_cells.specs.world.Names.{Path}
+use Rattle.vn_cells.specs.texts.Text.{entry_line, event_text, history_text, limit_text, line, section_text}
 use Rattle.vn_text.specs.Whole.{pool_text, report_text, transcripts_text}
 
 two_put : (old p q a b : List ℕ) → a ≡ old ++ p → b ≡ a ++ q → b ≡ old ++ (p ++ q)
 two_put old p q a b first second = second ∙ ap (λ t. t ++ q) first ∙ append_assoc old p q
+
+pub three_put : (old p q r a b c : List ℕ) → a ≡ old ++ p → b ≡ a ++ q → c ≡ b ++ r → c ≡ old ++ (p ++ q ++ r)
+three_put old p q r a b c first second third =
+    let in_a_row : c ≡ ((old ++ p) ++ q) ++ r = cc in
+    in_a_row ∙ simp append_assoc
+
+-- two texts, and four more that were put as one
+pub six_put : (old p q r s t u a b c : List ℕ) → a ≡ old ++ p → b ≡ a ++ q → c ≡ b ++ (r ++ s ++ t ++ u) → c ≡ old ++ (p ++ q ++ r ++ s ++ t ++ u)
+six_put old p q r s t u a b c first second third =
+    let in_a_row : c ≡ ((old ++ p) ++ q) ++ (r ++ s ++ t ++ u) = cc in
+    in_a_row ∙ simp append_assoc
 
 pub four_put : (old p q r s a b c d : List ℕ) → a ≡ old ++ p → b ≡ a ++ q → c ≡ b ++ r → d ≡ c ++ s → d ≡ old ++ (p ++ q ++ r ++ s)
 four_put old p q r s a b c d first second third fourth =

@@ -6,10 +6,10 @@ use Rattle.vn_cells.specs.declared.event.Event.{Event}
 use Rattle.vn_cells.specs.declared.transcript.Entry.{Entry}
 use Rattle.vn_cells.specs.declared.world.Stack.{Stack}
 use Rattle.vn_cells.specs.declared.world.World.{World}
-use Rattle.vn_cells.specs.Names.{Path}
-use Rattle.vn_cells.specs.Reports.{has_entry, report_of, section_of, sections_of}
-use Rattle.vn_cells.specs.Step.{run}
-use Rattle.vn_cells.specs.Text.{history_text, pool_line, section_text, sections_text, text}
+use Rattle.vn_cells.specs.world.Names.{Path}
+use Rattle.vn_cells.specs.texts.Reports.{has_entry, report_of, section_of, sections_of}
+use Rattle.vn_cells.specs.machine.Step.{run}
+use Rattle.vn_cells.specs.texts.Text.{history_text, pool_line, section_text, sections_text, text}
 use Rattle.vn_text.specs.Whole.{pool_text, report_text, transcripts_text}
 
 shown : (stacks : List (Path × Stack)) → flat_map (λ s. section_text s.path s.entries) (map section_of (filter (λ s. has_entry s.1.entries) stacks)) ≡ flat_map (λ s. section_text s.0 s.1.entries) stacks

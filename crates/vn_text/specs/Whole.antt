@@ -3,7 +3,7 @@ use Rattle.std.specs.Prelude.{ℕ, List, ◌++◌, codes}
 use Rattle.std.specs.List.{flat_map}
 use Rattle.std.specs.Fmt.{decimal}
 use Rattle.vn_cells.specs.declared.report.Report.{Report}
-use Rattle.vn_cells.specs.Text.{history_text, line, section_text}
+use Rattle.vn_cells.specs.texts.Text.{history_text, line, section_text}
 
 -- how many readers are open and how many table versions are kept for them
 abbrev pub pool_text : ℕ → ℕ → List ℕ

@@ -1,7 +1,7 @@
 ghost use Rattle.std.specs.Prelude.{◌≡◌, List};
 ghost use Rattle.vn_cells.specs.declared.event.Event.{Event as AnyEvent};
-ghost use Rattle.vn_cells.specs.Reports.{report_of};
-ghost use Rattle.vn_cells.specs.Text.{text};
+ghost use Rattle.vn_cells.specs.texts.Reports.{report_of};
+ghost use Rattle.vn_cells.specs.texts.Text.{text};
 ghost use Rattle.vn_text.specs.Whole.{report_text};
 
 /// The report of a history, written, is the text of the history's run.

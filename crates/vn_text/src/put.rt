@@ -1,23 +1,26 @@
-ghost use Rattle.std.specs.Prelude.{◌≡◌, ◌++◌, decimal, OnOk, OnErr};
+ghost use Rattle.std.specs.Prelude.{◌≡◌, ◌++◌, OnOk};
+ghost use Rattle.std.specs.Io.{StartsWith};
+ghost use Rattle.vn_types.specs.AddressWords.{hex_octet, prefix_text};
 
-use itoa::Buffer;
-use vn_types::NoMemory;
+use vn_types::{Ip4, NoMemory, hex_pair, write_ip4};
+pub(crate) use vn_types::{put, put_number};
 
-/// Puts a text at the end of the output.
-pub(crate) fn put(text: &[u8], out: &mut Vec<u8>) -> Result<(), NoMemory>
-    ensures put { OnOk result (out.new.items ≡ out.old.items ++ text.now) }
-    ensures kept { OnErr result (out.new.items ≡ out.old.items) }
+/// Puts an address and the length of its prefix at the end of the output.
+#[tactic(auto, unfolding(vn_types::specs::AddressWords::prefix_text))]
+pub(crate) fn put_prefix(ip: Ip4, len: u8, out: &mut Vec<u8>) -> Result<(), NoMemory>
+    ensures put { OnOk result (out.new.items
+        ≡ out.old.items ++ prefix_text (record { net = ip; len = len })) }
+    ensures front { StartsWith out.new.items out.old.items }
 {
-    if out.extend_from_slice(text).is_err() {
-        return Err(NoMemory);
-    }
-    Ok(())
+    write_ip4(ip, out)?;
+    put(b"/", out)?;
+    put_number(u64::from(len), out)
 }
 
-/// Puts a number's decimal digits at the end of the output.
-pub(crate) fn put_number(number: u64, out: &mut Vec<u8>) -> Result<(), NoMemory>
-    ensures { OnOk result (out.new.items ≡ out.old.items ++ decimal number) }
+/// Puts two hexadecimal digits in lower case at the end of the output.
+pub(crate) fn put_octet(octet: u8, out: &mut Vec<u8>) -> Result<(), NoMemory>
+    ensures put { OnOk result (out.new.items ≡ out.old.items ++ hex_octet octet) }
+    ensures front { StartsWith out.new.items out.old.items }
 {
-    let mut buffer = Buffer::new();
-    put(buffer.format(number).as_bytes(), out)
+    put(&hex_pair(octet), out)
 }

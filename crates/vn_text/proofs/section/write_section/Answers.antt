@@ -1,6 +1,0 @@
-use Rattle.std.proofs.Common.{sym, ◌∙◌}
-use Rattle.vn_text.proofs.Putting.{nothing_put}
-use Rattle.vn_text.proofs.section.write_section.Goals as goal
-
-pub returns-then-is_empty-clause-written : goal.returns-then-is_empty-clause-written
-returns-then-is_empty-clause-written c = nothing_put _ _ _ (sym c.is_empty.ensures ∙ c.if-is_empty.true)
