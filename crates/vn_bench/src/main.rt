@@ -13,7 +13,8 @@ use anyhow::Result;
 use std::env;
 
 fn main(rt: HostRuntime) -> Result<()> {
-    let (part, rounds) = read_words(env::args(&rt)?)?;
+    let words: Vec<String> = env::args(&rt)?.collect(rt.alloc())?;
+    let (part, rounds) = read_words(&words)?;
     if part != Part::Headers {
         println!(rt; "sum {:04x}", folded_sums(rounds))?;
     }

@@ -1,7 +1,11 @@
+ghost use Rattle.std.specs.Prelude.{◌≡◌, MatchResult, None, Some, string_bytes};
+ghost use Rattle.vn_bench.specs.Words.{part_of, task_of};
+ghost use Rattle.vn_types.specs.NumberWords.{number_of};
+
 use anyhow::{Result, bail};
-use std::env::Args;
 use vn_types::read_number;
 
+/// The rounds where no number is given.
 const ROUNDS: u64 = 2000;
 
 /// What is done in each round.
@@ -12,26 +16,37 @@ pub enum Part {
     Headers,
 }
 
-/// The part and the number of rounds that the words behind the program's name ask for.
-pub fn read_words(mut words: Args) -> Result<(Part, u64)> {
-    let _program = words.next();
-    let Some(name) = words.next() else {
-        return Ok((Part::Both, ROUNDS));
-    };
-    let part = match name.as_str() {
-        "sum" => Part::Sum,
-        "headers" => Part::Headers,
-        other => bail!("{other:?} is neither sum nor headers"),
-    };
-    let rounds = match words.next() {
-        None => ROUNDS,
-        Some(word) => match read_number(word.as_bytes()) {
-            Some(rounds) => rounds,
-            None => bail!("{word:?} is no number of rounds"),
-        },
-    };
-    if words.next().is_some() {
-        bail!("there are more than two words");
+/// The part and the number of rounds that the words of the command line ask for. The first word is
+/// the program's name.
+pub fn read_words(words: &[String]) -> Result<(Part, u64)>
+    ensures { MatchResult result (λ task. task_of words.now ≡ Some task)
+        (λ _. task_of words.now ≡ None) }
+{
+    match words {
+        [] | [_] => Ok((Part::Both, ROUNDS)),
+        [_, name] => Ok((read_part(name)?, ROUNDS)),
+        [_, name, rounds] => Ok((read_part(name)?, read_rounds(rounds)?)),
+        _ => bail!("there are more than two words"),
     }
-    Ok((part, rounds))
+}
+
+fn read_part(name: &String) -> Result<Part>
+    ensures { MatchResult result (λ part. part_of (string_bytes name.now) ≡ Some part)
+        (λ _. part_of (string_bytes name.now) ≡ None) }
+{
+    match name.as_str() {
+        "sum" => Ok(Part::Sum),
+        "headers" => Ok(Part::Headers),
+        other => bail!("{other:?} is neither sum nor headers"),
+    }
+}
+
+fn read_rounds(word: &String) -> Result<u64>
+    ensures { MatchResult result (λ rounds. number_of (string_bytes word.now) ≡ Some rounds)
+        (λ _. number_of (string_bytes word.now) ≡ None) }
+{
+    match read_number(word.as_bytes()) {
+        Some(rounds) => Ok(rounds),
+        None => bail!("{word:?} is no number of rounds"),
+    }
 }
