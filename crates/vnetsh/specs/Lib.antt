@@ -1,3 +1,5 @@
 pub mod Words
 pub mod Lines
 pub mod Inputs
+pub mod Outputs
+pub mod Endings

@@ -1,14 +1,11 @@
-ghost use Rattle.std.specs.Prelude.{◌≡◌, ◌≢◌, ◌↔◌, ◌⊎◌, ◌<◌, ◌≤◌, ◌+◌, ℕ, false, true, length, Err, IfOk, IfSome, IsOkAnd};
-ghost use Rattle.std.specs.Io.KnownBytes.{Appends, IsAtEnd, Keeps};
-ghost use Rattle.vn_cells.specs.Clean.{IsEachPrefixClean};
-ghost use Rattle.vn_cells.specs.Isolation.{IsIsolated};
-ghost use Rattle.vn_cells.specs.Schedule.{serial_run};
-ghost use Rattle.vn_cells.specs.Text.{text};
-ghost use Rattle.vn_io.specs.Counts.{Rose};
-ghost use Rattle.vn_io.specs.Transfers.{AppendsPart, ConsumesAtMost, ConsumesExactly};
+ghost use Rattle.std.specs.Prelude.{◌≡◌, ◌≢◌, ◌↔◌, ◌<◌, ◌≤◌, ◌+◌, ℕ, false, true, length, Err, IfSome};
+ghost use Rattle.std.specs.Io.KnownBytes.{IsAtEnd};
+ghost use Rattle.vn_io.specs.Counts.{RoseByOne, Stayed};
+ghost use Rattle.vn_io.specs.Transfers.{ConsumesAtMost, ConsumesExactly};
 ghost use Rattle.vn_shell.specs.declared.script.Reason.{Reason as AnyReason};
 ghost use Rattle.vn_shell.specs.Grammar.{script_of};
-ghost use Rattle.vnetsh.specs.Inputs.{input_max, status_of};
+ghost use Rattle.vnetsh.specs.Inputs.{IsDecided, input_max};
+ghost use Rattle.vnetsh.specs.Outputs.{IsRunClean, IsRunIsolated, WritesPart, WritesRun};
 ghost use Rattle.vnetsh.specs.Words.{is_run};
 
 use crate::forms::is_run;
@@ -29,29 +26,43 @@ pub fn top<S: Source, K: Sink>(
     source: &mut S,
     sink: &mut K,
 ) -> Status
-    // The sink holds what it held, and then the text of the run of the script that the input spells.
-    ensures done { result ≡ Status.Done → IfSome (S.left source.old) (λ input. IsOkAnd (script_of input) (λ script. Appends (K.written sink.old) (K.written sink.new) (text (serial_run script)))) }
-    // Each cell of each set that is closed in that history is as in a run of the set's own events.
-    ensures isolated { result ≡ Status.Done → IfSome (S.left source.old) (λ input. IfOk (script_of input) (λ script. IsIsolated (serial_run script))) }
-    ensures clean { result ≡ Status.Done → IfSome (S.left source.old) (λ input. IfOk (script_of input) (λ script. IsEachPrefixClean (serial_run script))) }
+    ensures done { result ≡ Status.Done
+        → WritesRun (S.left source.old) (K.written sink.old) (K.written sink.new) }
+    ensures isolated { result ≡ Status.Done → IsRunIsolated (S.left source.old) }
+    ensures clean { result ≡ Status.Done → IsRunClean (S.left source.old) }
 
     // Each other status by its cause.
     ensures usage { (result ≡ Status.Usage) ↔ (is_run words.now ≡ false) }
     ensures unread { result ≡ Status.Usage → source.new ≡ source.old }
-    ensures read_fault { result ≡ Status.ReadFault → Rose (S.faults source.old) (S.faults source.new) }
-    ensures too_long { result ≡ Status.TooLong → IfSome (S.left source.old) (λ input. input_max < length input) }
-    ensures stops { result ≡ Status.TooLong → ConsumesExactly (S.left source.old) (S.left source.new) (input_max + 1) }
+    ensures read_fault { result ≡ Status.ReadFault
+        → RoseByOne (S.faults source.old) (S.faults source.new) }
+    ensures reads_counted { result ≢ Status.ReadFault
+        → Stayed (S.faults source.old) (S.faults source.new) }
+    ensures too_long { result ≡ Status.TooLong
+        → IfSome (S.left source.old) (λ input. input_max < length input) }
+    ensures stops { result ≡ Status.TooLong
+        → ConsumesExactly (S.left source.old) (S.left source.new) (input_max + 1) }
     // The other statuses come after the end of an input within the limit.
-    ensures within { result ≢ Status.Usage → result ≢ Status.ReadFault → result ≢ Status.TooLong → result ≢ Status.NoMemory → IfSome (S.left source.old) (λ input. length input ≤ input_max) }
-    ensures whole { result ≢ Status.Usage → result ≢ Status.ReadFault → result ≢ Status.TooLong → result ≢ Status.NoMemory → IsAtEnd (S.left source.new) }
-    ensures script { (number : ℕ) (reason : AnyReason) → result ≡ Status.Script number reason → IfSome (S.left source.old) (λ input. script_of input ≡ Err (number, reason)) }
-    ensures write_fault { result ≡ Status.WriteFault → Rose (K.faults sink.old) (K.faults sink.new) }
-    ensures part { result ≡ Status.WriteFault → IfSome (S.left source.old) (λ input. IsOkAnd (script_of input) (λ script. AppendsPart (K.written sink.old) (K.written sink.new) (text (serial_run script)))) }
+    ensures within { result ≢ Status.Usage → result ≢ Status.ReadFault → result ≢ Status.TooLong
+        → result ≢ Status.NoMemory
+        → IfSome (S.left source.old) (λ input. length input ≤ input_max) }
+    ensures whole { result ≢ Status.Usage → result ≢ Status.ReadFault → result ≢ Status.TooLong
+        → result ≢ Status.NoMemory → IsAtEnd (S.left source.new) }
+    ensures script { (number : ℕ) (reason : AnyReason) → result ≡ Status.Script number reason
+        → IfSome (S.left source.old) (λ input. script_of input ≡ Err (number, reason)) }
+    ensures write_fault { result ≡ Status.WriteFault
+        → RoseByOne (K.faults sink.old) (K.faults sink.new) }
+    ensures writes_counted { result ≢ Status.WriteFault
+        → Stayed (K.faults sink.old) (K.faults sink.new) }
+    ensures part { result ≡ Status.WriteFault
+        → WritesPart (S.left source.old) (K.written sink.old) (K.written sink.new) }
     ensures unwritten { result ≢ Status.Done → result ≢ Status.WriteFault → sink.new ≡ sink.old }
 
     // Where nothing fails, the input decides the status, unless memory is wanting.
-    ensures complete { is_run words.now ≡ true → ¬ Rose (S.faults source.old) (S.faults source.new) → ¬ Rose (K.faults sink.old) (K.faults sink.new)
-        → IfSome (S.left source.old) (λ input. (result ≡ status_of input) ⊎ (result ≡ Status.NoMemory)) }
+    ensures complete { is_run words.now ≡ true
+        → ¬ RoseByOne (S.faults source.old) (S.faults source.new)
+        → ¬ RoseByOne (K.faults sink.old) (K.faults sink.new)
+        → IsDecided (S.left source.old) result }
 
     ensures bounded { ConsumesAtMost (S.left source.old) (S.left source.new) (input_max + 1) }
     ensures reads_never_fall { S.faults source.old ≤ S.faults source.new }
@@ -68,29 +79,43 @@ pub fn serial<S: Source, K: Sink>(
     source: &mut S,
     sink: &mut K,
 ) -> Status
-    // The sink holds what it held, and then the text of the run of the script that the input spells.
-    ensures done { result ≡ Status.Done → IfSome (S.left source.old) (λ input. IsOkAnd (script_of input) (λ script. Appends (K.written sink.old) (K.written sink.new) (text (serial_run script)))) }
-    // Each cell of each set that is closed in that history is as in a run of the set's own events.
-    ensures isolated { result ≡ Status.Done → IfSome (S.left source.old) (λ input. IfOk (script_of input) (λ script. IsIsolated (serial_run script))) }
-    ensures clean { result ≡ Status.Done → IfSome (S.left source.old) (λ input. IfOk (script_of input) (λ script. IsEachPrefixClean (serial_run script))) }
+    ensures done { result ≡ Status.Done
+        → WritesRun (S.left source.old) (K.written sink.old) (K.written sink.new) }
+    ensures isolated { result ≡ Status.Done → IsRunIsolated (S.left source.old) }
+    ensures clean { result ≡ Status.Done → IsRunClean (S.left source.old) }
 
     // Each other status by its cause.
     ensures usage { (result ≡ Status.Usage) ↔ (is_run words.now ≡ false) }
     ensures unread { result ≡ Status.Usage → source.new ≡ source.old }
-    ensures read_fault { result ≡ Status.ReadFault → Rose (S.faults source.old) (S.faults source.new) }
-    ensures too_long { result ≡ Status.TooLong → IfSome (S.left source.old) (λ input. input_max < length input) }
-    ensures stops { result ≡ Status.TooLong → ConsumesExactly (S.left source.old) (S.left source.new) (input_max + 1) }
+    ensures read_fault { result ≡ Status.ReadFault
+        → RoseByOne (S.faults source.old) (S.faults source.new) }
+    ensures reads_counted { result ≢ Status.ReadFault
+        → Stayed (S.faults source.old) (S.faults source.new) }
+    ensures too_long { result ≡ Status.TooLong
+        → IfSome (S.left source.old) (λ input. input_max < length input) }
+    ensures stops { result ≡ Status.TooLong
+        → ConsumesExactly (S.left source.old) (S.left source.new) (input_max + 1) }
     // The other statuses come after the end of an input within the limit.
-    ensures within { result ≢ Status.Usage → result ≢ Status.ReadFault → result ≢ Status.TooLong → result ≢ Status.NoMemory → IfSome (S.left source.old) (λ input. length input ≤ input_max) }
-    ensures whole { result ≢ Status.Usage → result ≢ Status.ReadFault → result ≢ Status.TooLong → result ≢ Status.NoMemory → IsAtEnd (S.left source.new) }
-    ensures script { (number : ℕ) (reason : AnyReason) → result ≡ Status.Script number reason → IfSome (S.left source.old) (λ input. script_of input ≡ Err (number, reason)) }
-    ensures write_fault { result ≡ Status.WriteFault → Rose (K.faults sink.old) (K.faults sink.new) }
-    ensures part { result ≡ Status.WriteFault → IfSome (S.left source.old) (λ input. IsOkAnd (script_of input) (λ script. AppendsPart (K.written sink.old) (K.written sink.new) (text (serial_run script)))) }
+    ensures within { result ≢ Status.Usage → result ≢ Status.ReadFault → result ≢ Status.TooLong
+        → result ≢ Status.NoMemory
+        → IfSome (S.left source.old) (λ input. length input ≤ input_max) }
+    ensures whole { result ≢ Status.Usage → result ≢ Status.ReadFault → result ≢ Status.TooLong
+        → result ≢ Status.NoMemory → IsAtEnd (S.left source.new) }
+    ensures script { (number : ℕ) (reason : AnyReason) → result ≡ Status.Script number reason
+        → IfSome (S.left source.old) (λ input. script_of input ≡ Err (number, reason)) }
+    ensures write_fault { result ≡ Status.WriteFault
+        → RoseByOne (K.faults sink.old) (K.faults sink.new) }
+    ensures writes_counted { result ≢ Status.WriteFault
+        → Stayed (K.faults sink.old) (K.faults sink.new) }
+    ensures part { result ≡ Status.WriteFault
+        → WritesPart (S.left source.old) (K.written sink.old) (K.written sink.new) }
     ensures unwritten { result ≢ Status.Done → result ≢ Status.WriteFault → sink.new ≡ sink.old }
 
     // Where nothing fails, the input decides the status, unless memory is wanting.
-    ensures complete { is_run words.now ≡ true → ¬ Rose (S.faults source.old) (S.faults source.new) → ¬ Rose (K.faults sink.old) (K.faults sink.new)
-        → IfSome (S.left source.old) (λ input. (result ≡ status_of input) ⊎ (result ≡ Status.NoMemory)) }
+    ensures complete { is_run words.now ≡ true
+        → ¬ RoseByOne (S.faults source.old) (S.faults source.new)
+        → ¬ RoseByOne (K.faults sink.old) (K.faults sink.new)
+        → IsDecided (S.left source.old) result }
 
     ensures bounded { ConsumesAtMost (S.left source.old) (S.left source.new) (input_max + 1) }
     ensures reads_never_fall { S.faults source.old ≤ S.faults source.new }
@@ -107,7 +132,7 @@ pub fn serial<S: Source, K: Sink>(
         Err(ReadError::TooLong) => return Status::TooLong,
         Err(ReadError::NoMemory) => return Status::NoMemory,
     };
-    let output = match output(alloc, &input) {
+    let output = match output(alloc, input) {
         Ok(output) => output,
         Err(ScriptFault::Script { line, reason }) => return Status::Script { line, reason },
         Err(ScriptFault::NoMemory) => return Status::NoMemory,

@@ -1,41 +1,39 @@
-ghost use Rattle.std.specs.Prelude.{◌≡◌, ◌≤◌, ◌<◌, ◌+◌, ◌++◌, ◌∷◌, [], length, map, IfOk, IfErr, OnOk, IsOkAnd};
+ghost use Rattle.std.specs.Prelude.{◌≡◌, ◌≤◌, ◌<◌, ◌+◌, ◌++◌, ◌∷◌, [], length, map, IfOk, IfErr, OnOk, IsOkAnd, IsTrue};
 ghost use Rattle.std.specs.List.{flat_map};
-ghost use Rattle.vn_cells.specs.Events.{IsValid, IsValidEvent};
-ghost use Rattle.vn_cells.specs.Reports.{report_of};
-ghost use Rattle.vn_cells.specs.Schedule.{serial_run};
-ghost use Rattle.vn_cells.specs.Text.{text};
+ghost use Rattle.vn_cells.specs.machine.Events.{CanRun, can_run};
+ghost use Rattle.vn_cells.specs.texts.Reports.{report_of};
+ghost use Rattle.vn_cells.specs.texts.Schedule.{serial_run};
+ghost use Rattle.vn_cells.specs.texts.Text.{text};
 ghost use Rattle.vn_shell.specs.Grammar.{script_of};
 ghost use Rattle.vn_shell.specs.Readings.{Refuses, command_in, event_of, events_of, lane_lines, lines_in};
 ghost use Rattle.vnetsh.specs.Inputs.{input_max};
 
 use std::alloc::Global;
-use vn_cells::{Command, Event, LaneLine, Line, Part, Report, Script};
+use vn_cells::{Command, EVENTS_MAX, Event, LaneLine, Line, Part, Report, Script};
 use vn_kernel::{Kernel, StepFault};
 use vn_shell::{ScriptFault, read_script};
 use vn_text::{law_of_reports, write_report};
-use vn_types::NoMemory;
+use vn_types::{List, NoMemory};
 
-/// The output for an input of at most 4,194,304 octets: the text of the run of its script.
-pub(crate) fn output(alloc: Global, input: &[u8]) -> Result<Vec<u8>, ScriptFault>
-    requires { length input.now ≤ input_max }
-    ensures output { IfOk result (λ o. IsOkAnd (script_of input.now) (λ script. o.items ≡ text (serial_run script))) }
-    ensures script { IfErr result (λ e. Refuses (script_of input.now) e) }
+/// The output for an input of at most 4,194,304 octets: the text of the run of its script. The
+/// input is dropped as soon as it is read.
+pub(crate) fn output(alloc: Global, input: Vec<u8>) -> Result<Vec<u8>, ScriptFault>
+    requires { length input.items ≤ input_max }
+    ensures output { IfOk result (λ o.
+        IsOkAnd (script_of input.items) (λ script. o.items ≡ text (serial_run script))) }
+    ensures script { IfErr result (λ e. Refuses (script_of input.items) e) }
 {
-    let script = match read_script(alloc, input) {
-        Ok(script) => script,
-        Err(fault) => return Err(fault),
-    };
-    match run_text(alloc, &script) {
-        Ok(text) => Ok(text),
-        Err(_) => Err(ScriptFault::NoMemory),
-    }
+    let script = read_script(alloc, &input)?;
+    drop(input);
+    let text = run_text(alloc, script)?;
+    Ok(text)
 }
 
 /// The text of the run of a script.
-fn run_text(alloc: Global, script: &Script) -> Result<Vec<u8>, NoMemory>
-    requires valid { IsValid (events_of script.now) }
-    requires few { length (lane_lines script.now) ≤ 200000 }
-    ensures { IfOk result (λ o. o.items ≡ text (serial_run script.now)) }
+fn run_text(alloc: Global, script: Script) -> Result<Vec<u8>, NoMemory>
+    requires valid { CanRun (events_of script) }
+    requires few { length (lane_lines script) ≤ EVENTS_MAX }
+    ensures { IfOk result (λ o. o.items ≡ text (serial_run script)) }
 {
     law_of_reports();
     let report = run_script(alloc, script)?;
@@ -45,56 +43,59 @@ fn run_text(alloc: Global, script: &Script) -> Result<Vec<u8>, NoMemory>
 }
 
 /// The report of a run of a script from the opening world.
-fn run_script(alloc: Global, script: &Script) -> Result<Report, NoMemory>
-    requires valid { IsValid (events_of script.now) }
-    requires few { length (lane_lines script.now) ≤ 200000 }
-    ensures { IfOk result (λ r. r ≡ report_of (serial_run script.now)) }
+fn run_script(alloc: Global, script: Script) -> Result<Report, NoMemory>
+    requires valid { CanRun (events_of script) }
+    requires few { length (lane_lines script) ≤ EVENTS_MAX }
+    ensures { IfOk result (λ r. r ≡ report_of (serial_run script)) }
 {
     let mut kernel = Kernel::new(alloc)?;
-    run_parts(&mut kernel, script.parts.as_slice())?;
+    run_parts(&mut kernel, script.parts)?;
     kernel.finish()
 }
 
-fn run_parts(kernel: &mut Kernel, parts: &[Part]) -> Result<(), NoMemory>
-    requires valid { IsValid (map event_of (flat_map lines_in parts.now)) }
-    requires room { length kernel.old.events + length (flat_map lines_in parts.now) ≤ 200000 }
-    ensures { OnOk result (kernel.new.events ≡ kernel.old.events ++ map event_of (flat_map lines_in parts.now)) }
+fn run_parts(kernel: &mut Kernel, parts: List<Part>) -> Result<(), NoMemory>
+    requires valid { CanRun (map event_of (flat_map lines_in parts)) }
+    requires room { length kernel.old.events + length (flat_map lines_in parts) ≤ EVENTS_MAX }
+    ensures { OnOk result (kernel.new.events
+        ≡ kernel.old.events ++ map event_of (flat_map lines_in parts)) }
 {
-    for part in parts {
+    for part in parts.into_vec() {
         run_part(kernel, part)?;
     }
     Ok(())
 }
 
-fn run_part(kernel: &mut Kernel, part: &Part) -> Result<(), NoMemory>
-    requires valid { IsValid (map event_of (lines_in part.now)) }
-    requires room { length kernel.old.events + length (lines_in part.now) ≤ 200000 }
-    ensures { OnOk result (kernel.new.events ≡ kernel.old.events ++ map event_of (lines_in part.now)) }
+fn run_part(kernel: &mut Kernel, part: Part) -> Result<(), NoMemory>
+    requires valid { CanRun (map event_of (lines_in part)) }
+    requires room { length kernel.old.events + length (lines_in part) ≤ EVENTS_MAX }
+    ensures { OnOk result (kernel.new.events
+        ≡ kernel.old.events ++ map event_of (lines_in part)) }
 {
     match part {
-        Part::Phase(lines) => run_lines(kernel, lines.as_slice()),
+        Part::Phase(lines) => run_lines(kernel, lines),
+        // No script that is read has such a part yet.
+        Part::Settle | Part::Sleep(_) => Ok(()),
     }
 }
 
 /// Runs the lines of a phase in script order.
-fn run_lines(kernel: &mut Kernel, lines: &[LaneLine]) -> Result<(), NoMemory>
-    requires valid { IsValid (map event_of lines.now) }
-    requires room { length kernel.old.events + length lines.now ≤ 200000 }
-    ensures { OnOk result (kernel.new.events ≡ kernel.old.events ++ map event_of lines.now) }
+fn run_lines(kernel: &mut Kernel, lines: List<LaneLine>) -> Result<(), NoMemory>
+    requires valid { CanRun (map event_of lines) }
+    requires room { length kernel.old.events + length lines ≤ EVENTS_MAX }
+    ensures { OnOk result (kernel.new.events ≡ kernel.old.events ++ map event_of lines) }
 {
-    for line in lines {
+    for line in lines.into_vec() {
         run_line(kernel, line)?;
     }
     Ok(())
 }
 
-fn run_line(kernel: &mut Kernel, line: &LaneLine) -> Result<(), NoMemory>
-    requires valid { IsValidEvent (event_of line.now) }
-    requires room { length kernel.old.events < 200000 }
-    ensures { OnOk result (kernel.new.events ≡ kernel.old.events ++ event_of line.now ∷ []) }
+fn run_line(kernel: &mut Kernel, line: LaneLine) -> Result<(), NoMemory>
+    requires valid { IsTrue (can_run (event_of line)) }
+    requires room { length kernel.old.events < EVENTS_MAX }
+    ensures { OnOk result (kernel.new.events ≡ kernel.old.events ++ event_of line ∷ []) }
 {
-    let event = event_of(line)?;
-    match kernel.step(event) {
+    match kernel.step(event_of(line)) {
         Ok(()) => Ok(()),
         Err(StepFault::NoMemory) => Err(NoMemory),
         // No script has so many lines.
@@ -102,22 +103,23 @@ fn run_line(kernel: &mut Kernel, line: &LaneLine) -> Result<(), NoMemory>
     }
 }
 
-fn event_of(line: &LaneLine) -> Result<Event, NoMemory>
-    ensures { IfOk result (λ e. e ≡ event_of line.now) }
+fn event_of(line: LaneLine) -> Event
+    ensures { result ≡ event_of line }
 {
-    let path = line.path.copy()?;
-    let command = command_of(&line.line)?;
-    Ok(Event::Cmd {
-        lane: line.lane,
+    let LaneLine { lane, path, line } = line;
+    Event::Cmd {
+        lane,
         path,
-        command,
-    })
+        command: command_in(line),
+    }
 }
 
-fn command_of(line: &Line) -> Result<Command, NoMemory>
-    ensures { IfOk result (λ c. c ≡ command_in line.now) }
+fn command_in(line: Line) -> Command
+    ensures { result ≡ command_in line }
 {
     match line {
-        Line::Cmd(command) => command.copy(),
+        Line::Cmd(command) => command,
+        // No script that is read has such a line yet.
+        _ => Command::Stat,
     }
 }

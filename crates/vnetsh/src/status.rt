@@ -1,10 +1,13 @@
-ghost use Rattle.std.specs.Prelude.{◌≡◌, ◌++◌, codes, decimal, string_bytes, IfOk, OnErr, OnOk};
-ghost use Rattle.vn_cells.specs.Text.{line};
+ghost use Rattle.std.specs.Prelude.{◌≡◌, ◌++◌, OnErr, OnOk};
+ghost use Rattle.std.specs.List.{flat_map};
 ghost use Rattle.vnetsh.specs.Lines.{reason_text, status_code, status_line};
 
-use std::alloc::{AllocError, Global};
+use itoa::Buffer;
 use vn_shell::Reason;
-use vn_types::NoMemory;
+use vn_types::{NoMemory, put_all};
+
+/// The line of a faulty command line.
+const USAGE: &[u8] = b"usage: vnetsh run|threads|replay|project CELLS|gen N\n";
 
 /// How a call of the program ended.
 #[derive(Drop)]
@@ -46,56 +49,45 @@ impl Status {
         ensures written { OnOk result (out.new.items ≡ out.old.items ++ status_line self.now) }
         ensures kept { OnErr result (out.new.items ≡ out.old.items) }
     {
-        match self {
-            Status::Done => Ok(()),
-            Status::Usage => put(
-                "usage: vnetsh run|threads|replay|project CELLS|gen N\n",
-                out,
-            ),
-            Status::Script { line, reason } => put_refusal(*line, reason, out),
-            Status::ReadFault => put("read fault\n", out),
-            Status::WriteFault => put("write fault\n", out),
-            Status::NoMemory => put("out of memory\n", out),
-            Status::TooLong => put("input too long\n", out),
-        }
+        let mut digits = Buffer::new();
+        put_all(&self.pieces(&mut digits), out)
     }
-}
 
-fn put_refusal(number: u64, reason: &Reason, out: &mut Vec<u8>) -> Result<(), NoMemory>
-    ensures written { OnOk result (out.new.items ≡ out.old.items ++ line (codes "script: line " ++ decimal number ++ codes ": " ++ reason_text reason.now)) }
-    ensures kept { OnErr result (out.new.items ≡ out.old.items) }
-{
-    let Ok(text) = refusal(*out.allocator(), number, reason) else {
-        return Err(NoMemory);
-    };
-    put(text.as_str(), out)
-}
-
-fn refusal(alloc: Global, number: u64, reason: &Reason) -> Result<String, AllocError>
-    ensures { IfOk result (λ text. string_bytes text ≡ codes "script: line " ++ (decimal number ++ (codes ": " ++ (reason_text reason.now ++ codes "\n")))) }
-{
-    let name = reason_name(reason);
-    format!(in alloc; "script: line {number}: {name}\n")
+    /// The pieces of the status line and its end, in a row. The line's number is written to
+    /// `digits`.
+    pub(crate) fn pieces<'a>(&self, digits: &'a mut Buffer) -> [&'a [u8]; 5]
+        ensures { flat_map (λ piece. piece.now) result ≡ status_line self.now }
+    {
+        let empty: &'a [u8] = b"";
+        let text: &'a [u8] = match self {
+            Status::Script { line, reason } => {
+                let front: &'a [u8] = b"script: line ";
+                let number: &'a [u8] = digits.format(*line).as_bytes();
+                let between: &'a [u8] = b": ";
+                let name: &'a [u8] = reason_name(reason).as_bytes();
+                let end: &'a [u8] = b"\n";
+                return [front, number, between, name, end];
+            }
+            Status::Done => b"",
+            Status::Usage => USAGE,
+            Status::ReadFault => b"read fault\n",
+            Status::WriteFault => b"write fault\n",
+            Status::NoMemory => b"out of memory\n",
+            Status::TooLong => b"input too long\n",
+        };
+        [text, empty, empty, empty, empty]
+    }
 }
 
 fn reason_name(reason: &Reason) -> &'static str
     ensures { result.now ≡ reason_text reason.now }
 {
+    use vn_shell::Reason::{Command, Depth, Lane, Path, Text};
     match reason {
-        Reason::Text => "text",
-        Reason::Lane => "lane",
-        Reason::Path => "path",
-        Reason::Command => "command",
-        Reason::Depth => "depth",
+        Text => "text",
+        Lane => "lane",
+        Path => "path",
+        Command => "command",
+        Depth => "depth",
     }
-}
-
-fn put(text: &str, out: &mut Vec<u8>) -> Result<(), NoMemory>
-    ensures put { OnOk result (out.new.items ≡ out.old.items ++ text.now) }
-    ensures kept { OnErr result (out.new.items ≡ out.old.items) }
-{
-    if out.extend_from_slice(text.as_bytes()).is_err() {
-        return Err(NoMemory);
-    }
-    Ok(())
 }

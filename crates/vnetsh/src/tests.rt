@@ -1,9 +1,9 @@
 use super::*;
-use crate::calls::serial;
+use crate::edges::{Reader, Writer};
 use std::alloc::Global;
+use std::io::ErrorKind;
+use std::process::ExitCode;
 use std::test::Fail;
-use vn_io::{MemSink, MemSource, Source};
-use vn_shell::Reason;
 
 const CONSTRUCTORS: &str = "0 - init vnet_data
 0 - init vnet_if
@@ -32,37 +32,7 @@ const TWICE_TOLD: [&str; 7] = [
     "cmd 1 host jail -c name=a vnet persist\ncmd 1 host jail -c name=a vnet persist\n== end\n",
 ];
 
-/// Which calls are to fail, and the greatest piece of a call.
-#[derive(Clone, Copy)]
-struct Edge {
-    piece: usize,
-    failing: u64,
-}
-
-/// No call has number 0.
-const CALM: Edge = Edge {
-    piece: 4096,
-    failing: 0,
-};
-
-fn source(alloc: Global, input: &[u8], edge: Edge) -> Result<MemSource, Fail> {
-    let octets = Vec::from_slice(alloc, input)?;
-    let failing = Vec::from_slice(alloc, &[edge.failing])?;
-    Ok(MemSource::new(octets, edge.piece.max(1), failing))
-}
-
-fn sink(alloc: Global, edge: Edge) -> Result<MemSink, Fail> {
-    let failing = Vec::from_slice(alloc, &[edge.failing])?;
-    Ok(MemSink::new(alloc, edge.piece.max(1), failing))
-}
-
-fn strings(alloc: Global, words: &[&str]) -> Result<Vec<String>, Fail> {
-    let mut strings = Vec::new(alloc);
-    for word in words {
-        strings.push(String::from_str(alloc, *word)?)?;
-    }
-    Ok(strings)
-}
+const USAGE: &str = "usage: vnetsh run|threads|replay|project CELLS|gen N\n";
 
 fn joined(alloc: Global, pieces: &[&str]) -> Result<Vec<u8>, Fail> {
     let mut text = Vec::new(alloc);
@@ -72,13 +42,41 @@ fn joined(alloc: Global, pieces: &[&str]) -> Result<Vec<u8>, Fail> {
     Ok(text)
 }
 
-/// The exit status of `run`, and what it wrote.
-fn run(alloc: Global, input: &[u8], reads: Edge, writes: Edge) -> Result<(u8, Vec<u8>), Fail> {
-    let words = strings(alloc, &["run"])?;
-    let mut source = source(alloc, input, reads)?;
-    let mut sink = sink(alloc, writes)?;
-    let status = top(alloc, &words, &mut source, &mut sink);
-    Ok((status.code(), Vec::from_slice(alloc, sink.written())?))
+/// A call of the program with words behind its name.
+fn call(
+    words: &[&str],
+    reader: &mut Reader<'_>,
+    writer: &mut Writer,
+    errors: &mut Writer,
+) -> Result<ExitCode, Fail> {
+    let alloc = *writer.octets.allocator();
+    let mut all = Vec::new(alloc);
+    all.push(String::from_str(alloc, "vnetsh")?)?;
+    for word in words {
+        all.push(String::from_str(alloc, *word)?)?;
+    }
+    Ok(program(
+        alloc,
+        Ok(all),
+        &mut ReadSource::new(reader),
+        &mut WriteSink::new(writer),
+        &mut WriteSink::new(errors),
+    ))
+}
+
+/// The exit status of a call that nothing fails, its output and its status line.
+fn calm(alloc: Global, words: &[&str], text: &str) -> Result<(ExitCode, Vec<u8>, Vec<u8>), Fail> {
+    let mut writer = Writer::new(alloc, 4096, 0);
+    let mut errors = Writer::new(alloc, 4096, 0);
+    let code = call(
+        words,
+        &mut Reader::new(text, 4096, 0),
+        &mut writer,
+        &mut errors,
+    )?;
+    let Writer { octets, .. } = writer;
+    let Writer { octets: line, .. } = errors;
+    Ok((code, octets, line))
 }
 
 #[test]
@@ -119,92 +117,64 @@ fn runs_are_written(rt: HostRuntime) -> Result<(), Fail> {
         ),
     ];
     for (name, script, told) in rows {
-        let (code, output) = run(alloc, script.as_bytes(), CALM, CALM)?;
-        assert_eq!(rt; code, 0, "{name}");
+        let (code, output, line) = calm(alloc, &["run"], script)?;
+        assert_eq!(rt; code, ExitCode::SUCCESS, "{name}");
         assert_eq!(rt; output, joined(alloc, told)?, "{name}");
+        assert!(rt; line.is_empty(), "{name}");
     }
     Ok(())
 }
 
 #[test]
-fn other_words_are_refused(rt: HostRuntime) -> Result<(), Fail> {
+fn what_is_refused_has_its_line(rt: HostRuntime) -> Result<(), Fail> {
     let alloc = rt.alloc();
-    let rows: [&[&str]; 6] = [
-        &[],
-        &["run", "x"],
-        &["gen", "1"],
-        &["--help"],
-        &["Run"],
-        &["threads"],
-    ];
-    for row in rows {
-        let words = strings(alloc, row)?;
-        let mut source = source(alloc, TWICE.as_bytes(), CALM)?;
-        let mut sink = sink(alloc, CALM)?;
-        let status = serial(alloc, &words, &mut source, &mut sink);
-        assert_eq!(rt; status.code(), 1);
-        assert_eq!(rt; sink.written().len(), 0);
-        let mut first = [0u8; 1];
-        let _ = source.read(&mut first);
-        assert_eq!(rt; first, [b'1']);
-    }
-    Ok(())
-}
-
-#[test]
-fn refused_scripts_have_their_line(rt: HostRuntime) -> Result<(), Fail> {
-    let alloc = rt.alloc();
-    let rows = [
-        ("1 host frob", "script: line 1: command\n"),
-        ("9 host settle", "script: line 1: lane\n"),
-        ("1 host.a jls", "script: line 1: path\n"),
+    let rows: [(&[&str], &str, u8, &str); 9] = [
+        (&[], TWICE, 1, USAGE),
+        (&["run", "x"], TWICE, 1, USAGE),
+        (&["--help"], TWICE, 1, USAGE),
+        (&["threads"], TWICE, 1, USAGE),
+        (&["run"], "1 host frob", 2, "script: line 1: command\n"),
+        (&["run"], "9 host settle", 2, "script: line 1: lane\n"),
+        (&["run"], "1 host.a jls", 2, "script: line 1: path\n"),
         (
+            &["run"],
             "# a comment\n\n1 a jail -c name=b.c.d.e.f.g.h.i vnet persist",
+            2,
             "script: line 3: depth\n",
         ),
-        ("#\n# \t\n", "script: line 2: text\n"),
+        (&["run"], "#\n# \t\n", 2, "script: line 2: text\n"),
     ];
-    let words = strings(alloc, &["run"])?;
-    for (script, line) in rows {
-        let mut source = source(alloc, script.as_bytes(), CALM)?;
-        let mut sink = sink(alloc, CALM)?;
-        let status = top(alloc, &words, &mut source, &mut sink);
-        let mut told = Vec::new(alloc);
-        status.write_line(&mut told).ok().ok_or("no memory")?;
-        assert_eq!(rt; told.as_slice(), line.as_bytes());
-        assert_eq!(rt; status.code(), 2);
-        assert_eq!(rt; sink.written().len(), 0);
+    for (words, script, status, told) in rows {
+        let (code, output, line) = calm(alloc, words, script)?;
+        assert_eq!(rt; code, ExitCode::from(status), "{told}");
+        assert_eq!(rt; line.as_slice(), told.as_bytes());
+        assert!(rt; output.is_empty(), "{told}");
     }
     Ok(())
 }
 
 #[test]
-fn statuses_have_their_lines(rt: HostRuntime) -> Result<(), Fail> {
+fn words_may_be_no_text(rt: HostRuntime) -> Result<(), Fail> {
+    let alloc = rt.alloc();
     let rows = [
-        (Status::Done, 0, ""),
-        (
-            Status::Usage,
-            1,
-            "usage: vnetsh run|threads|replay|project CELLS|gen N\n",
-        ),
-        (
-            Status::Script {
-                line: 1_000_000,
-                reason: Reason::Depth,
-            },
-            2,
-            "script: line 1000000: depth\n",
-        ),
-        (Status::ReadFault, 3, "read fault\n"),
-        (Status::WriteFault, 4, "write fault\n"),
-        (Status::NoMemory, 5, "out of memory\n"),
-        (Status::TooLong, 6, "input too long\n"),
+        (ErrorKind::InvalidData, 1, USAGE),
+        (ErrorKind::OutOfMemory, 5, "out of memory\n"),
     ];
-    for (status, code, line) in rows {
-        let mut told = Vec::new(rt.alloc());
-        status.write_line(&mut told).ok().ok_or("no memory")?;
-        assert_eq!(rt; status.code(), code);
-        assert_eq!(rt; told.as_slice(), line.as_bytes());
+    for (kind, status, told) in rows {
+        let mut reader = Reader::new(TWICE, 4096, 0);
+        let mut writer = Writer::new(alloc, 4096, 0);
+        let mut errors = Writer::new(alloc, 4096, 0);
+        let code = program(
+            alloc,
+            Err(kind.into()),
+            &mut ReadSource::new(&mut reader),
+            &mut WriteSink::new(&mut writer),
+            &mut WriteSink::new(&mut errors),
+        );
+        assert_eq!(rt; code, ExitCode::from(status));
+        assert_eq!(rt; reader.calls, 0);
+        assert_eq!(rt; writer.calls, 0);
+        assert_eq!(rt; errors.octets.as_slice(), told.as_bytes());
     }
     Ok(())
 }
@@ -212,44 +182,76 @@ fn statuses_have_their_lines(rt: HostRuntime) -> Result<(), Fail> {
 #[test]
 fn an_input_has_a_limit(rt: HostRuntime) -> Result<(), Fail> {
     let alloc = rt.alloc();
-    let rows = [(4_194_304usize, 0), (4_194_305, 6)];
-    for (octets, want) in rows {
-        let input = vec![in alloc; b'\n'; octets]?;
-        let (code, output) = run(alloc, &input, CALM, CALM)?;
-        assert_eq!(rt; code, want);
-        assert_eq!(rt; output.is_empty(), want != 0);
+    let rows = [(4_194_304usize, 0, ""), (4_194_305, 6, "input too long\n")];
+    for (octets, status, told) in rows {
+        let input = String::from_utf8(vec![in alloc; b'\n'; octets]?)
+            .ok()
+            .ok_or("no text")?;
+        let (code, output, line) = calm(alloc, &["run"], &input)?;
+        assert_eq!(rt; code, ExitCode::from(status));
+        assert_eq!(rt; output.is_empty(), status != 0);
+        assert_eq!(rt; line.as_slice(), told.as_bytes());
     }
     Ok(())
 }
 
+/// The call that fails is the last one.
 #[test]
-fn each_read_fails_in_turn(rt: HostRuntime) -> Result<(), Fail> {
+fn a_failed_read_ends_the_run(rt: HostRuntime) -> Result<(), Fail> {
     let alloc = rt.alloc();
     for piece in [1usize, 7, 4096] {
         // the last read finds the end
         let reads = TWICE.len().div_ceil(piece) as u64 + 1;
-        for failing in 1..reads + 2 {
-            let (code, output) = run(alloc, TWICE.as_bytes(), Edge { piece, failing }, CALM)?;
-            assert_eq!(rt; code, if failing <= reads { 3 } else { 0 });
-            assert_eq!(rt; output.is_empty(), failing <= reads);
+        for failing in 1..reads + 1 {
+            let mut reader = Reader::new(TWICE, piece, failing);
+            let mut writer = Writer::new(alloc, 4096, 0);
+            let mut errors = Writer::new(alloc, 4096, 0);
+            let code = call(&["run"], &mut reader, &mut writer, &mut errors)?;
+            assert_eq!(rt; code, ExitCode::from(3));
+            assert_eq!(rt; reader.calls, failing);
+            assert_eq!(rt; writer.calls, 0);
+            assert_eq!(rt; errors.octets.as_slice(), b"read fault\n".as_slice());
         }
     }
     Ok(())
 }
 
 #[test]
-fn each_write_fails_in_turn(rt: HostRuntime) -> Result<(), Fail> {
+fn a_failed_write_ends_the_run(rt: HostRuntime) -> Result<(), Fail> {
     let alloc = rt.alloc();
     let whole = joined(alloc, &TWICE_TOLD)?;
     for piece in [1usize, 7, 4096] {
-        let writes = whole.len().div_ceil(piece);
-        for before in 0..writes {
-            let failing = before as u64 + 1;
-            let (code, output) = run(alloc, TWICE.as_bytes(), CALM, Edge { piece, failing })?;
-            assert_eq!(rt; code, 4);
-            assert_eq!(rt; output.len(), before.saturating_mul(piece));
-            assert!(rt; whole.starts_with(&output));
+        for before in 0..whole.len().div_ceil(piece) {
+            let mut reader = Reader::new(TWICE, 4096, 0);
+            let mut writer = Writer::new(alloc, piece, before as u64 + 1);
+            let mut errors = Writer::new(alloc, 4096, 0);
+            let code = call(&["run"], &mut reader, &mut writer, &mut errors)?;
+            assert_eq!(rt; code, ExitCode::from(4));
+            assert_eq!(rt; writer.calls, before as u64 + 1);
+            assert_eq!(rt; writer.octets.len(), before.saturating_mul(piece));
+            assert!(rt; whole.starts_with(&writer.octets));
+            assert_eq!(rt; errors.octets.as_slice(), b"write fault\n".as_slice());
         }
+    }
+    Ok(())
+}
+
+/// Neither the exit status nor the output changes, and there is no second try.
+#[test]
+fn a_status_line_may_be_lost(rt: HostRuntime) -> Result<(), Fail> {
+    let alloc = rt.alloc();
+    for failing in [1u64, 2] {
+        let mut reader = Reader::new("1 host frob", 4096, 0);
+        let mut writer = Writer::new(alloc, 4096, 0);
+        let mut errors = Writer::new(alloc, 7, failing);
+        let code = call(&["run"], &mut reader, &mut writer, &mut errors)?;
+        assert_eq!(rt; code, ExitCode::from(2));
+        assert_eq!(rt; writer.calls, 0);
+        assert_eq!(rt; errors.calls, failing);
+        assert_eq!(rt;
+            errors.octets.as_slice(),
+            &b"script:"[..errors.octets.len().min(7)]
+        );
     }
     Ok(())
 }

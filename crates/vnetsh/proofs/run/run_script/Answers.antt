@@ -1,16 +1,16 @@
 use Rattle.std.proofs.Common.{◌≡◌, IfOk, subst}
-use Rattle.vn_cells.specs.Reports.{report_of}
+use Rattle.vn_cells.specs.texts.Reports.{report_of}
 use Rattle.vnetsh.proofs.Runs.{script_valid, script_room, script_run}
 use Rattle.vnetsh.proofs.run.run_script.Goals as goal
 
 pub run_parts-requires-clause-valid : goal.run_parts-requires-clause-valid
-run_parts-requires-clause-valid c = script_valid c.args.script.now c.as_slice.result.now c.as_slice.ensures c.requires.valid
+run_parts-requires-clause-valid c = script_valid c.args.script c.requires.valid
 
 pub run_parts-requires-clause-room : goal.run_parts-requires-clause-room
-run_parts-requires-clause-room c = script_room c.args.script.now c.as_slice.result.now c.in_ok-kernel.kernel c.as_slice.ensures c.in_ok-kernel.ensures.opened c.requires.few
+run_parts-requires-clause-room c = script_room c.args.script c.in_ok-kernel.kernel c.in_ok-kernel.ensures.opened c.requires.few
 
 pub returns : goal.returns
 returns c =
     subst (λ events. IfOk c.finish.result (λ r. r ≡ report_of events))
-    (script_run c.args.script.now c.as_slice.result.now c.in_ok-kernel.kernel c.run_parts.new.kernel.events c.as_slice.ensures c.in_ok-kernel.ensures.opened c.in_ok-run_parts.ensures)
+    (script_run c.args.script c.in_ok-kernel.kernel c.run_parts.new.kernel.events c.requires.valid c.in_ok-kernel.ensures.opened c.in_ok-run_parts.ensures)
     c.finish.ensures.report
