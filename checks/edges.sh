@@ -29,9 +29,9 @@ expect_output() {
     fi
 }
 
-# in_readme FILE: whether the README has it, four spaces to the right.
+# in_readme FILE: whether the README has it, four spaces to the right, but for the lines of constructors.
 in_readme() {
-    if [[ "$(cat README.md)" == *"$(sed 's/^\(.\)/    \1/' "$1")"* ]]; then
+    if [[ "$(cat README.md)" == *"$(grep -v -- '- init' "$1" | sed 's/^\(.\)/    \1/')"* ]]; then
         passed=$((passed + 1))
     else
         failed=$((failed + 1))
