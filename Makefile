@@ -24,7 +24,7 @@ demo: readable program
 	@$(program) run < "$$script" || echo "exit status $$?"
 
 try: readable
-	@exec < "$$script" && cd crates/vnetsh && rt try -- run
+	@exec < "$$script" && cd crates/vnetsh && { rt try -- run || echo "exit status $$?"; }
 
 # A script that can't be read is told before anything is proved.
 .PHONY: readable
