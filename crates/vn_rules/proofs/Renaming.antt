@@ -17,8 +17,8 @@ use Rattle.vn_rules.specs.declared.socket.SocketOf.{SocketOf}
 use Rattle.vn_rules.specs.declared.timer.TimerOf.{TimerOf}
 use Rattle.vn_rules.specs.declared.timer.TimerOf.TheVariants.{Arp, Ping}
 use Rattle.vn_rules.specs.declared.parts.PartsOf.{PartsOf}
-use Rattle.vn_rules.specs.Routes.{Routed}
-use Rattle.vn_rules.specs.Interfaces.{target_if, queue_ifs, named_ifs, is_among, is_timer_of}
+use Rattle.vn_rules.specs.Routes.{Routed, target_if}
+use Rattle.vn_rules.specs.Interfaces.{queue_ifs, named_ifs, is_among, is_timer_of}
 use Rattle.vn_rules.specs.Construction.{constructed_parts}
 use Rattle.vn_rules.specs.Renamed.{as_addr, as_target, as_routed, as_arp, as_ping, as_gram, as_socket, as_timer, as_timed, renamed}
 
@@ -34,7 +34,7 @@ module _ {A B C : Type 0} (f : A → B) (g : B → C) (h : A → C) (same : (x :
 -- ---- what the renamed parts name
 
 module _ {N M : Type 0} (r : N → M) where
-  target_if-renamed : (t : TargetOf N) → target_if (as_target r t) ≡ as_if r (target_if t)
+  pub target_if-renamed : (t : TargetOf N) → target_if (as_target r t) ≡ as_if r (target_if t)
   target_if-renamed (Link on) = refl
   target_if-renamed (Gateway via on) = refl
 

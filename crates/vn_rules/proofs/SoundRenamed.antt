@@ -28,7 +28,10 @@ use Rattle.vn_rules.specs.Networks.{lies_in}
 use Rattle.vn_rules.specs.Orders.{are_rising, are_distinct, has_16_bits, is_network, is_right_in, are_addresses, are_routes, are_arp_entries, is_socket, are_sockets, are_timers, are_pings, keeps_orders}
 use Rattle.vn_rules.specs.Renamed.{as_addr, as_target, as_routed, as_arp, as_ping, as_pings, as_gram, as_socket, as_timer, as_timed, as_timers, renamed}
 use Rattle.vn_rules.specs.Routes.{Routed, prefix_cmp, is_link_on, covers}
-use Rattle.vn_rules.specs.Soundness.{is_bound_locally, binds_locally, is_timer_for, times_pings, gave_arms, has_distinct_arms, names_own, is_timer_at, has_owner, owns_timers, timers_wanted, times_arp, has_distinct_entries, covers_arp, is_address_of, is_founded, founds_routes, keeps_timers, keeps_tables, is_sound_parts}
+use Rattle.vn_rules.specs.Addresses.{is_address_of}
+use Rattle.vn_rules.specs.Arp.{is_timer_at}
+use Rattle.vn_rules.specs.Pings.{is_timer_for}
+use Rattle.vn_rules.specs.Soundness.{is_bound_locally, binds_locally, times_pings, gave_arms, has_distinct_arms, names_own, has_owner, owns_timers, timers_wanted, times_arp, has_distinct_entries, covers_arp, is_founded, founds_routes, keeps_timers, keeps_tables, is_sound_parts}
 use Rattle.vn_rules.specs.Timers.{Timed, turn_cmp}
 use Rattle.vn_rules.proofs.AddressLaws.{local-renamed}
 use Rattle.vn_rules.proofs.Renaming.{named_ifs-renamed, is_among-renamed}

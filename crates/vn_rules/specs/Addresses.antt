@@ -74,8 +74,12 @@ module _ {N : Type 0} where
 
 module _ {N : Type 0} (same : N → N → Bool) where
   -- whether it is an address of the interface
-  abbrev is_on : IfOf N → AddrOf N → Bool
+  abbrev pub is_on : IfOf N → AddrOf N → Bool
   is_on on a = if_same same a.on on
+
+  -- whether it is an address of the interface, of that network
+  abbrev pub is_address_of : IfOf N → Prefix → AddrOf N → Bool
+  is_address_of on to a = is_on on a && (a.len == to.len) && lies_in a.ip to
 
   -- whether it is that address of the interface
   abbrev pub is_at : IfOf N → Ip4 → AddrOf N → Bool

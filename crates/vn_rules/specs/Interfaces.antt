@@ -5,8 +5,6 @@ use Rattle.vn_types.specs.declared.interface.IfOf.{IfOf}
 use Rattle.vn_types.specs.declared.interface.IfOf.TheVariants.{Half}
 use Rattle.vn_types.specs.Interfaces.{if_same}
 use Rattle.vn_rules.specs.declared.address.AddrOf.{AddrOf}
-use Rattle.vn_rules.specs.declared.route.TargetOf.{TargetOf}
-use Rattle.vn_rules.specs.declared.route.TargetOf.TheVariants.{Link, Gateway}
 use Rattle.vn_rules.specs.declared.arp.ArpEntryOf.{ArpEntryOf}
 use Rattle.vn_rules.specs.declared.ping.PingOf.{PingOf}
 use Rattle.vn_rules.specs.declared.socket.GramOf.{GramOf}
@@ -14,14 +12,9 @@ use Rattle.vn_rules.specs.declared.socket.SocketOf.{SocketOf}
 use Rattle.vn_rules.specs.declared.timer.TimerOf.{TimerOf}
 use Rattle.vn_rules.specs.declared.timer.TimerOf.TheVariants.{Arp, Ping}
 use Rattle.vn_rules.specs.declared.parts.PartsOf.{PartsOf}
-use Rattle.vn_rules.specs.Routes.{Routed}
+use Rattle.vn_rules.specs.Routes.{Routed, target_if}
 
 module _ {N : Type 0} where
-  -- the interface of a target
-  abbrev pub target_if : TargetOf N → IfOf N
-  target_if (Link on) = on
-  target_if (Gateway via on) = Half on
-
   -- the interfaces by which the datagrams of a socket came
   abbrev pub queue_ifs : SocketOf N → List (IfOf N)
   queue_ifs s = map (λ (g : GramOf N). g.via) s.queue

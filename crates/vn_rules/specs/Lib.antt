@@ -4,9 +4,13 @@ pub mod Addresses
 pub mod Routes
 pub mod Interfaces
 pub mod Timers
+pub mod Arp
+pub mod Pings
+pub mod Sockets
 pub mod Renamed
 pub mod Construction
 pub mod Orders
 pub mod Soundness
 pub mod Rules
+pub mod Purge
 pub mod Scenes

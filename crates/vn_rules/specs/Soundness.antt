@@ -1,12 +1,8 @@
 -- What the parts of a stack keep among themselves, as tests.
-use Rattle.std.specs.Prelude.{ℕ, Bool, true, false, ◌==◌, ◌&&◌, nat_lt, List, Option, Some, None, count_by}
+use Rattle.std.specs.Prelude.{ℕ, Bool, true, ◌==◌, ◌&&◌, nat_lt, List, Option, Some, None, count_by}
 use Rattle.std.specs.List.{list_any, list_all}
 use Rattle.vn_types.specs.declared.address.Ip4.{Ip4}
 use Rattle.vn_types.specs.declared.interface.IfOf.TheVariants.{Half}
-use Rattle.vn_types.specs.declared.address.Prefix.{Prefix}
-use Rattle.vn_types.specs.Interfaces.{if_same}
-use Rattle.vn_rules.specs.declared.address.AddrOf.{AddrOf}
-use Rattle.vn_types.specs.declared.interface.IfOf.{IfOf}
 use Rattle.vn_rules.specs.declared.route.TargetOf.TheVariants.{Link, Gateway}
 use Rattle.vn_rules.specs.declared.arp.ArpEntryOf.{ArpEntryOf}
 use Rattle.vn_rules.specs.declared.arp.ArpState.{ArpState}
@@ -16,8 +12,9 @@ use Rattle.vn_rules.specs.declared.socket.SocketOf.{SocketOf}
 use Rattle.vn_rules.specs.declared.timer.TimerOf.TheVariants.{Arp, Ping}
 use Rattle.vn_rules.specs.declared.parts.PartsOf.{PartsOf}
 use Rattle.vn_rules.specs.Interfaces.{named_ifs, is_among}
-use Rattle.vn_rules.specs.Addresses.{local}
-use Rattle.vn_rules.specs.Networks.{lies_in}
+use Rattle.vn_rules.specs.Addresses.{local, is_address_of}
+use Rattle.vn_rules.specs.Arp.{is_timer_at}
+use Rattle.vn_rules.specs.Pings.{is_timer_for}
 use Rattle.vn_rules.specs.Orders.{are_distinct, keeps_orders}
 use Rattle.vn_rules.specs.Routes.{Routed, covers}
 use Rattle.vn_rules.specs.Timers.{Timed}
@@ -31,11 +28,6 @@ module _ {N : Type 0} where
   -- each socket's local address, where it is set, is one of the stack's
   unfoldable pub binds_locally : PartsOf N → Bool
   binds_locally p = list_all (λ (s : SocketOf N). is_bound_locally p s.ip) p.sockets
-
-  -- whether it is the timer of that awaited ping
-  abbrev pub is_timer_for : PingOf N → Timed N → Bool
-  is_timer_for ping (at, Arp half ip) = false
-  is_timer_for ping (at, Ping id arm) = (at.1 == ping.arm) && (arm == ping.arm) && (id == ping.id)
 
   -- each awaited ping has its timer, and one alone
   unfoldable pub times_pings : PartsOf N → Bool
@@ -55,14 +47,9 @@ module _ {N : Type 0} (same : N → N → Bool) where
   unfoldable pub names_own : PartsOf N → Bool
   names_own p = list_all (is_among same p.interfaces) (named_ifs p)
 
-  -- whether it is a timer of that ARP entry
-  abbrev pub is_timer_at : ArpEntryOf N → Timed N → Bool
-  is_timer_at e (at, Arp half ip) = same half e.half && (ip.0 == e.ip.0)
-  is_timer_at e (at, Ping id arm) = false
-
   -- whether the ARP entry or the awaited ping of a timer is there
   abbrev pub has_owner : PartsOf N → Timed N → Bool
-  has_owner p (at, Arp half ip) = list_any (λ e. is_timer_at e (at, Arp half ip)) p.arp
+  has_owner p (at, Arp half ip) = list_any (λ e. is_timer_at same e (at, Arp half ip)) p.arp
   has_owner p (at, Ping id arm) =
       list_any (λ ping. is_timer_for ping (at, Ping id arm)) p.pings.awaited
 
@@ -81,7 +68,7 @@ module _ {N : Type 0} (same : N → N → Bool) where
   unfoldable pub times_arp : PartsOf N → Bool
   times_arp p =
       list_all
-      (λ (e : ArpEntryOf N). count_by (is_timer_at e) p.timers.standing == timers_wanted e.state)
+      (λ (e : ArpEntryOf N). count_by (is_timer_at same e) p.timers.standing == timers_wanted e.state)
       p.arp
 
   -- whether two ARP entries are of one address on one half
@@ -96,14 +83,10 @@ module _ {N : Type 0} (same : N → N → Bool) where
   unfoldable pub covers_arp : PartsOf N → Bool
   covers_arp p = list_all (λ (e : ArpEntryOf N). covers same (Half e.half) e.ip p.routes) p.arp
 
-  -- whether an address of the interface is of that network
-  abbrev pub is_address_of : IfOf N → Prefix → AddrOf N → Bool
-  is_address_of on to a = if_same same a.on on && (a.len == to.len) && lies_in a.ip to
-
   -- an interface route has an address of its interface with that network, and a gateway is covered by
   -- an interface route of its half
   abbrev pub is_founded : PartsOf N → Routed N → Bool
-  is_founded p (to, Link on) = list_any (is_address_of on to) p.addresses
+  is_founded p (to, Link on) = list_any (is_address_of same on to) p.addresses
   is_founded p (to, Gateway via half) = covers same (Half half) via p.routes
 
   -- each route has what it stands on

@@ -1,6 +1,6 @@
 ghost use Rattle.std.specs.Prelude.{◌≡◌};
 ghost use Rattle.vn_types.specs.Interfaces.{half_id_eq, if_same};
-ghost use Rattle.vn_rules.specs.Interfaces.{target_if};
+ghost use Rattle.vn_rules.specs.Routes.{target_if};
 
 use vn_types::{HalfId, If, IfOf, Ip4, same_interface};
 
