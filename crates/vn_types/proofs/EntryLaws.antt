@@ -7,7 +7,7 @@ use Rattle.std.specs.Ordering.{is_eq, match_ordering, ordering_reverse}
 use Rattle.std.specs.declared.cmp.Ordering.{Ordering}
 use Rattle.std.specs.declared.cmp.Ordering.TheVariants.{Less, Equal, Greater}
 use Rattle.std.specs.Cmp.{IsTotalOrder}
-use Rattle.std.specs.List.{AllByRecursion}
+use Rattle.std.specs.List.{AllByRecursion, list_any}
 use Rattle.std.specs.List.Sorted.{IsStrictlySortedBy}
 use Rattle.std.specs.Map.{lookup, set_value, keys_of}
 use Rattle.std.specs.BTreeMap.{is_at, insert_entry}
@@ -153,3 +153,15 @@ module _ {K V : Type 0} (cmp : K → K → Ordering) {eq : K → K → Bool} (de
       by true None = refl
       by true (Some v) = refl
       by false o = refl
+
+module _ {K V : Type 0} (cmp : K → K → Ordering) {eq : K → K → Bool} (ties : (a b : K) → eq a b ≡ is_eq (cmp a b)) where
+  -- a key is listed where it is found
+  pub listed-find : (k : K) (es : List (K × V)) → list_any (eq k) (keys_of es) ≡ is_some (find cmp k es)
+  unfolding find
+  listed-find k [] = refl
+  listed-find k (e ∷ es) = by (is_eq (cmp k e.0)) (ties k e.0) (listed-find k es)
+    where
+      by : (b : Bool) → eq k e.0 ≡ b → list_any (eq k) (keys_of es) ≡ is_some (find cmp k es)
+          → (eq k e.0 || list_any (eq k) (keys_of es)) ≡ is_some (cond b (Some e.1) (find cmp k es))
+      by true f ih = ap (λ b. b || list_any (eq k) (keys_of es)) f
+      by false f ih = ap (λ b. b || list_any (eq k) (keys_of es)) f ∙ ih

@@ -4,6 +4,7 @@
 
 mod address;
 mod address_text;
+mod asking;
 mod boxed;
 mod errno;
 mod half;
@@ -27,6 +28,7 @@ mod words;
 
 pub use address::{Ip4, Mac, Prefix};
 pub use address_text::{read_ip4, read_prefix, write_ip4, write_prefix};
+pub use asking::{Covering, Standing};
 pub use boxed::Boxed;
 pub use errno::Errno;
 pub use half::Half;

@@ -12,8 +12,7 @@ use Rattle.vn_cells.specs.declared.world.Stack.{Stack}
 use Rattle.vn_cells.specs.declared.world.Live.{Live}
 use Rattle.vn_cells.specs.declared.world.Pair.{Pair}
 use Rattle.vn_cells.specs.world.World.{no_stack, stack_at, pair_at, is_alive, edit_stack, each_stack, edit_live, live_map, add_pair, each_pair}
-use Rattle.vn_types.proofs.EntryLaws.{find-put, find-each}
-use Rattle.vn_laws.proofs.edits.Lists.{listed-find}
+use Rattle.vn_types.proofs.EntryLaws.{find-put, find-each, listed-find}
 use Rattle.vn_types.proofs.EntryLaws.{sorted-put, keys_of-each}
 use Rattle.std.specs.List.Sorted.{IsStrictlySortedBy}
 use Rattle.std.specs.Map.{keys_of}

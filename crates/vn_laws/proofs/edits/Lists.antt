@@ -1,12 +1,9 @@
 -- Sorted lists are told apart by their members.
-use Rattle.std.proofs.Common.{◌≡◌, ◌+◌, Bool, true, false, ◌&&◌, ◌||◌, not, cond, List, [], ◌∷◌, length, Some, refl, sym, ap, ◌∙◌, subst, arith}
+use Rattle.std.proofs.Common.{◌≡◌, ◌+◌, Bool, true, false, ◌&&◌, ◌||◌, not, cond, List, [], ◌∷◌, length, refl, sym, ap, ◌∙◌, subst, arith}
 use Rattle.std.specs.Prelude.{filter}
 use Rattle.std.specs.List.{list_any, AllByRecursion}
 use Rattle.std.specs.List.Sorted.{IsStrictlySortedBy}
 use Rattle.std.specs.Bool.{Decides}
-use Rattle.std.specs.Map.{keys_of}
-use Rattle.std.specs.Option.{is_some}
-use Rattle.vn_types.specs.Entries.{find}
 use Rattle.std.specs.Cmp.{IsTotalOrder}
 use Rattle.std.specs.Ordering.{is_eq, ordering_reverse}
 use Rattle.std.specs.declared.cmp.Ordering.{Ordering}
@@ -106,15 +103,3 @@ module _ {K : Type 0} (cmp : K → K → Ordering) {eq : K → K → Bool} (o : 
           omega arith
       by false e true g ih = let n = ih (more e) in omega arith
       by false e false g ih = ih (more e)
-
-module _ {K V : Type 0} (cmp : K → K → Ordering) {eq : K → K → Bool} (ties : (a b : K) → eq a b ≡ is_eq (cmp a b)) where
-  -- a key is listed where it is found
-  pub listed-find : (k : K) (es : List (K × V)) → list_any (eq k) (keys_of es) ≡ is_some (find cmp k es)
-  unfolding find
-  listed-find k [] = refl
-  listed-find k (e ∷ es) = by (is_eq (cmp k e.0)) (ties k e.0) (listed-find k es)
-    where
-      by : (b : Bool) → eq k e.0 ≡ b → list_any (eq k) (keys_of es) ≡ is_some (find cmp k es)
-          → (eq k e.0 || list_any (eq k) (keys_of es)) ≡ is_some (cond b (Some e.1) (find cmp k es))
-      by true f ih = ap (λ b. b || list_any (eq k) (keys_of es)) f
-      by false f ih = ap (λ b. b || list_any (eq k) (keys_of es)) f ∙ ih
