@@ -14,3 +14,5 @@ pub mod Soundness
 pub mod Rules
 pub mod Purge
 pub mod Scenes
+pub mod Named
+pub mod LinkCommands

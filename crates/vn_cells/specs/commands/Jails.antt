@@ -1,5 +1,5 @@
 -- jail(8), -c: a jail is made.
-use Rattle.std.specs.Prelude.{ℕ, ◌+◌, Bool, false, not, nat_le, List, [], ◌∷◌, ◌++◌, map, Option, Some, None, if◌then◌else◌}
+use Rattle.std.specs.Prelude.{ℕ, ◌+◌, ◌-◌, Bool, false, not, nat_le, List, [], ◌∷◌, ◌++◌, map, Option, Some, None, if◌then◌else◌}
 use Rattle.std.specs.List.{list_any}
 use Rattle.vn_types.specs.declared.half.Half.{Half}
 use Rattle.vn_types.specs.declared.errno.Errno.TheVariants as errno
@@ -16,6 +16,10 @@ use Rattle.vn_cells.specs.world.World.{stack_at, is_alive, entry_of, live_map, e
 
 -- ---- construction (VNET(9))
 
+-- the rows by which stacks are constructed and destroyed
+abbrev pub rows : List (RowOf Half)
+rows = constructor_rows
+
 -- a constructor's line in the transcript
 abbrev pub init_entry : ℕ → RowOf Half → Entry
 init_entry clock row = entry_of clock (what.Init row.name)
@@ -24,8 +28,8 @@ init_entry clock row = entry_of clock (what.Init row.name)
 -- go on
 abbrev pub construct : ℕ → Option Children → Stack → Stack
 construct clock children s = record s {
-  entries = s.entries ++ map (init_entry clock) constructor_rows;
-  live = Some (record { children = children; parts = run_up constructor_rows bare_parts });
+  entries = s.entries ++ map (init_entry clock) rows;
+  live = Some (record { children = children; parts = run_up rows bare_parts });
 }
 
 -- ---- the number of living descendants
@@ -43,9 +47,17 @@ recount f live = record live { children = counted_by f live.children }
 abbrev pub recount_above : Path → (ℕ → ℕ) → Path → Stack → Stack
 recount_above p f q s = if list_any (path_eq q) (above p) then live_map (recount f) s else s
 
--- one more living descendant
+-- one living descendant more
+abbrev pub one_more : ℕ → ℕ
+one_more n = n + 1
+
+-- one living descendant less
+abbrev pub one_less : ℕ → ℕ
+one_less n = n - 1
+
+-- one more in a stack
 abbrev pub one_more_below : Stack → Stack
-one_more_below s = live_map (recount (λ n. n + 1)) s
+one_more_below s = live_map (recount one_more) s
 
 -- ---- the rule
 
@@ -53,7 +65,7 @@ one_more_below s = live_map (recount (λ n. n + 1)) s
 unfoldable pub created : ℕ → Path → ℕ → World → World
 created clock p limit w =
     edit_stack p (construct clock (Some (record { limit = limit; living = 0 })))
-    (each_stack (λ q s. if list_any (path_eq q) (above p) then one_more_below s else s) w)
+    (each_stack (recount_above p one_more) w)
 
 -- as many living descendants as the limit, or more
 abbrev pub has_no_room : Option Children → Bool

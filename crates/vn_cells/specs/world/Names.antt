@@ -4,6 +4,8 @@ use Rattle.std.specs.List.{list_any, filter_map}
 use Rattle.vn_types.specs.declared.half.Half.{Half}
 use Rattle.vn_types.specs.declared.interface.IfOf.{IfOf}
 use Rattle.vn_types.specs.declared.interface.IfOf.TheVariants.{Lo0, Half as OfHalf}
+use Rattle.vn_types.specs.declared.interface.IfName.{IfName}
+use Rattle.vn_types.specs.declared.interface.IfName.TheVariants.{Epair}
 use Rattle.vn_types.specs.declared.interface.Side.{Side}
 use Rattle.vn_types.specs.Interfaces.{side_eq, if_same}
 pub use Rattle.vn_types.specs.Paths.{Path, Key, first_or_host, parent}
@@ -24,6 +26,10 @@ If = IfOf Half
 -- whether two interfaces are one
 abbrev pub if_eq : If → If → Bool
 if_eq = if_same half_eq
+
+-- the name of a half where it stands
+abbrev pub half_name : Half → IfName
+half_name h = Epair h.unit h.side
 
 -- the pair of a half
 abbrev pub key_of : Half → Key

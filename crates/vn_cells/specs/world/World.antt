@@ -1,9 +1,10 @@
 -- What stands in each cell of a world, and the few edits that the machine's rules are made of.
-use Rattle.std.specs.Prelude.{ℕ, ◌+◌, Bool, List, [], ◌∷◌, ◌++◌, Option, Some, None, unwrap_or, if◌then◌else◌}
+use Rattle.std.specs.Prelude.{ℕ, ◌+◌, Bool, not, List, [], ◌∷◌, ◌++◌, filter, Option, Some, None, unwrap_or, if◌then◌else◌}
 use Rattle.std.specs.Option.{option_map, is_some}
 use Rattle.vn_types.specs.declared.half.Half.{Half}
 use Rattle.vn_types.specs.declared.interface.Side.{Side}
 use Rattle.vn_types.specs.declared.interface.Side.TheVariants.{A, B}
+use Rattle.vn_rules.specs.declared.parts.PartsOf.{PartsOf}
 use Rattle.vn_rules.specs.Rules.{Common}
 use Rattle.vn_cells.specs.declared.transcript.Entry.{Entry}
 use Rattle.vn_cells.specs.declared.transcript.What.{What}
@@ -64,6 +65,10 @@ end_at w h = option_map (end_of h.side) (pair_at w (key_of h))
 abbrev pub live_map : (Live → Live) → Stack → Stack
 live_map f s = record s { live = option_map f s.live }
 
+-- the tables of what lives, changed
+abbrev pub on_parts : (PartsOf Half → PartsOf Half) → Live → Live
+on_parts f live = record live { parts = f live.parts }
+
 -- a line of a transcript
 abbrev pub entry_of : ℕ → What → Entry
 entry_of clock what = record { clock = clock; what = what }
@@ -93,6 +98,10 @@ each_stack f w = record w { stacks = each f w.stacks }
 abbrev pub edit_live : Path → (Live → Live) → World → World
 edit_live p f w = each_stack (λ q s. if path_eq q p then live_map f s else s) w
 
+-- a line more in the transcript of a path
+abbrev pub noted : ℕ → Path → What → World → World
+noted clock p what w = edit_stack p (noting (entry_of clock what)) w
+
 -- one pair more
 unfoldable pub add_pair : Key → Pair → World → World
 add_pair k pair w = record w { pairs = put key_cmp k pair w.pairs }
@@ -104,6 +113,10 @@ each_pair f w = record w { pairs = each f w.pairs }
 -- one pair, changed in its place
 abbrev pub edit_pair : Key → (Pair → Pair) → World → World
 edit_pair k f w = each_pair (λ q pair. if key_eq q k then f pair else pair) w
+
+-- without a pair
+unfoldable pub drop_pair : Key → World → World
+drop_pair k w = record w { pairs = filter (λ e. not (key_eq e.0 k)) w.pairs }
 
 -- so many milliseconds later
 unfoldable pub later : ℕ → World → World

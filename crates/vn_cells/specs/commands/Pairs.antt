@@ -1,0 +1,141 @@
+-- epair(4) and ifconfig(8): pairs are made and destroyed, and get hardware addresses.
+use Rattle.std.specs.Prelude.{ℕ, ◌/◌, ◌%◌, Bool, false, ◌==◌, ◌||◌, not, nat_lt, List, [], ◌∷◌, ◌++◌, filter, slice_index, Option, Some, None}
+use Rattle.std.specs.List.{list_all}
+use Rattle.std.specs.Option.{is_none}
+use Rattle.vn_types.specs.declared.address.Mac.{Mac}
+use Rattle.vn_types.specs.declared.errno.Errno.TheVariants as errno
+use Rattle.vn_types.specs.declared.half.Half.{Half}
+use Rattle.vn_types.specs.declared.interface.IfName.{IfName}
+use Rattle.vn_types.specs.declared.interface.IfName.TheVariants.{Epair}
+use Rattle.vn_types.specs.declared.interface.IfOf.TheVariants.{Lo0, Half as OfHalf}
+use Rattle.vn_types.specs.declared.interface.Side.{Side}
+use Rattle.vn_types.specs.declared.interface.Side.TheVariants.{A, B}
+use Rattle.vn_types.specs.InterfaceWords.{ifname_text}
+use Rattle.vn_rules.specs.declared.outcome.Outcome.{Outcome}
+use Rattle.vn_rules.specs.declared.outcome.Outcome.TheVariants.{Value}
+use Rattle.vn_rules.specs.declared.parts.PartsOf.{PartsOf}
+use Rattle.vn_rules.specs.LinkCommands.{half_alone}
+use Rattle.vn_rules.specs.Named.{is_lo0}
+use Rattle.vn_rules.specs.Purge.{purged}
+use Rattle.vn_rules.specs.Rules.{Answer, Rule, done}
+use Rattle.vn_cells.specs.declared.world.End.{End}
+use Rattle.vn_cells.specs.declared.world.Pair.{Pair}
+use Rattle.vn_cells.specs.declared.world.World.{World}
+use Rattle.vn_cells.specs.world.Names.{Path, Key, If, half_eq, if_eq, half_on, key_of}
+use Rattle.vn_cells.specs.world.World.{pair_at, end_of, with_end, on_parts, edit_live, edit_pair, add_pair, drop_pair}
+use Rattle.vn_cells.specs.commands.Taken.{standing, is_unit_free, lowest_free, units}
+
+-- ---- a pair
+
+-- the last octet of a half's first hardware address
+abbrev pub side_octet : Side → ℕ
+side_octet A = 10
+side_octet B = 11
+
+-- 02:00, the unit in three octets, and :0a or :0b
+abbrev pub first_mac : ℕ → Side → Mac
+first_mac unit side = record {
+  0 = 2 ∷ 0 ∷ unit / 65536 % 256 ∷ unit / 256 % 256 ∷ unit % 256 ∷ side_octet side ∷ [];
+}
+
+-- a half as it is made: at home, down, and nothing waits
+abbrev pub new_end : Path → ℕ → Side → End
+new_end home unit side = record { at = home; mac = first_mac unit side; up = false; sent = [] }
+
+-- a pair as it is made
+abbrev pub new_pair : Key → Pair
+new_pair k = record { a = new_end k.0 k.1 A; b = new_end k.0 k.1 B }
+
+-- another hardware address on that side
+abbrev pub with_mac : Side → Mac → Pair → Pair
+with_mac side mac pair = with_end side (record (end_of side pair) { mac = mac }) pair
+
+-- ---- a half in one stack
+
+-- the half is the last of the interfaces
+abbrev pub attached : Half → PartsOf Half → PartsOf Half
+attached h p = record p { interfaces = p.interfaces ++ OfHalf h ∷ [] }
+
+-- the half is none of the interfaces
+abbrev pub unlisted : Half → PartsOf Half → PartsOf Half
+unlisted h p = record p { interfaces = filter (λ on. not (if_eq on (OfHalf h))) p.interfaces }
+
+-- nothing of the stack names the half, and it is none of the interfaces
+abbrev pub detached : Half → PartsOf Half → PartsOf Half
+detached h p = unlisted h (purged half_eq h p)
+
+-- the half is attached at a path
+abbrev pub attach : Half → Path → World → World
+attach h p w = edit_live p (on_parts (attached h)) w
+
+-- the half is purged and taken out at a path
+abbrev pub detach : Half → Path → World → World
+detach h p w = edit_live p (on_parts (detached h)) w
+
+-- ---- in the world
+
+-- the pair of a home and a unit is made, and its halves are attached there, side a first
+unfoldable pub made_pair : Key → World → World
+made_pair k w =
+    attach (half_on B k) k.0 (attach (half_on A k) k.0 (add_pair k (new_pair k) w))
+
+-- both halves are purged and taken out where they stand, side a first, and the pair is gone
+unfoldable pub unmade : Key → Option Pair → World → World
+unmade k None w = w
+unmade k (Some pair) w =
+    drop_pair k (detach (half_on B k) pair.b.at (detach (half_on A k) pair.a.at w))
+
+-- a pair is destroyed, where there is one
+abbrev pub destroyed_pair : Key → World → World
+destroyed_pair k w = unmade k (pair_at w k) w
+
+-- the pair of an interface is destroyed
+unfoldable pub destroyed_by : Option If → World → World
+destroyed_by None w = w
+destroyed_by (Some Lo0) w = w
+destroyed_by (Some (OfHalf h)) w = destroyed_pair (key_of h) w
+
+-- an interface that is a half gets a hardware address
+unfoldable pub with_mac_on : Option If → Mac → World → World
+with_mac_on None mac w = w
+with_mac_on (Some Lo0) mac w = w
+with_mac_on (Some (OfHalf h)) mac w = edit_pair (key_of h) (with_mac h.side mac) w
+
+-- ---- rules
+
+-- the pair is made, and side a's name is told
+abbrev pub told_pair : Path → ℕ → World → Answer World
+told_pair p unit w =
+    record { left = made_pair (p, unit) w; outcome = Value (ifname_text (Epair unit A)) }
+
+-- epair create: of the lowest unit that is free
+abbrev pub any_making : Path → World → Rule World
+any_making p w = record { refusals = []; otherwise = told_pair p (lowest_free w p) w }
+
+-- epair create of a unit
+abbrev pub making : Path → ℕ → World → Rule World
+making p unit w = record {
+  refusals =
+      (not (nat_lt unit units), errno.Inval) ∷ (not (is_unit_free w p unit), errno.Exist) ∷ [];
+  otherwise = told_pair p unit w;
+}
+
+-- destroy
+abbrev pub destruction : Path → IfName → World → Rule World
+destruction p name w = record {
+  refusals = half_alone (standing w p name);
+  otherwise = done (destroyed_by (standing w p name) w);
+}
+
+-- whether a hardware address is no half's: that of a group, or all octets 0 (RFC 894)
+abbrev pub is_no_station : Mac → Bool
+is_no_station mac = (slice_index mac.0 0 % 2 == 1) || list_all (λ octet. octet == 0) mac.0
+
+-- ether
+abbrev pub mac_setting : Path → IfName → Mac → World → Rule World
+mac_setting p name mac w =
+    let on = standing w p name in
+    record {
+      refusals = (is_none on, errno.NxIo) ∷ (is_lo0 on || is_no_station mac, errno.Inval) ∷ [];
+      otherwise = done (with_mac_on on mac w);
+    }
