@@ -32,6 +32,7 @@ use Rattle.vn_rules.specs.Addresses.{is_address_of}
 use Rattle.vn_rules.specs.Arp.{is_timer_at}
 use Rattle.vn_rules.specs.Pings.{is_timer_for}
 use Rattle.vn_rules.specs.Soundness.{is_bound_locally, binds_locally, times_pings, gave_arms, has_distinct_arms, names_own, has_owner, owns_timers, timers_wanted, times_arp, has_distinct_entries, covers_arp, is_founded, founds_routes, keeps_timers, keeps_tables, is_sound_parts}
+use Rattle.vn_rules.specs.Ports.{are_in_conflict}
 use Rattle.vn_rules.specs.Timers.{Timed, turn_cmp}
 use Rattle.vn_rules.proofs.AddressLaws.{local-renamed}
 use Rattle.vn_rules.proofs.Renaming.{named_ifs-renamed, is_among-renamed}
@@ -108,8 +109,12 @@ module _ {N M : Type 0} (r : N → M) where
   are_sockets-renamed : (xs : List (SocketOf N)) → are_sockets (map (as_socket r) xs) ≡ are_sockets xs
   unfolding are_sockets
   are_sockets-renamed xs =
-      ap₂ ◌&&◌ (distinct_map_same (as_socket r) _ _ (λ s t. refl) xs) (all_map_same (as_socket r) is_socket is_socket by xs)
+      ap₂ ◌&&◌ (ap₂ ◌&&◌ (distinct_map_same (as_socket r) _ _ (λ s t. refl) xs) (distinct_map_same (as_socket r) are_in_conflict are_in_conflict apart xs))
+      (all_map_same (as_socket r) is_socket is_socket by xs)
     where
+      apart : (s t : SocketOf N) → are_in_conflict (as_socket r s) (as_socket r t) ≡ are_in_conflict s t
+      apart s t = refl
+
       by : (s : SocketOf N) → is_socket (as_socket r s) ≡ is_socket s
       by s = ap (λ n. (is_none s.peer || is_some s.ip) && (is_none s.ip || is_some s.port) && nat_le n RECEIVED_MAX) (length-map s.queue (as_gram r))
 

@@ -9,6 +9,7 @@ pub mod Pings
 pub mod Sockets
 pub mod Renamed
 pub mod Construction
+pub mod Ports
 pub mod Orders
 pub mod Soundness
 pub mod Rules

@@ -21,6 +21,7 @@ use Rattle.vn_rules.specs.declared.parts.TheConstants.{LOOPBACK_MAX}
 use Rattle.vn_rules.specs.Addresses.{has_ip}
 use Rattle.vn_rules.specs.Networks.{lies_in}
 use Rattle.vn_rules.specs.Routes.{Routed, prefix_cmp}
+use Rattle.vn_rules.specs.Ports.{are_in_conflict}
 use Rattle.vn_rules.specs.Timers.{Timed, turn_cmp}
 use Rattle.vn_rules.specs.Variables.{declarations, are_declared}
 
@@ -72,10 +73,11 @@ module _ {N : Type 0} where
       (is_none s.peer || is_some s.ip) && (is_none s.ip || is_some s.port)
       && nat_le (length s.queue) RECEIVED_MAX
 
-  -- no two sockets have one name
+  -- no two sockets have one name, nor one port at addresses that are not apart
   unfoldable pub are_sockets : List (SocketOf N) → Bool
   are_sockets sockets =
       are_distinct (λ (s : SocketOf N) (t : SocketOf N). bytes_eq s.name t.name) sockets
+      && are_distinct are_in_conflict sockets
       && list_all is_socket sockets
 
   -- timers stand by their turns, and no two have one arm number
