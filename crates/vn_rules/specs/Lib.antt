@@ -5,11 +5,13 @@ pub mod Routes
 pub mod Interfaces
 pub mod Timers
 pub mod Arp
+pub mod Resolution
 pub mod Pings
+pub mod Ports
 pub mod Sockets
+pub mod SocketRefusals
 pub mod Renamed
 pub mod Construction
-pub mod Ports
 pub mod Orders
 pub mod Soundness
 pub mod Rules

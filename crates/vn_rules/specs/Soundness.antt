@@ -1,5 +1,5 @@
 -- What the parts of a stack keep among themselves, as tests.
-use Rattle.std.specs.Prelude.{ℕ, Bool, true, ◌==◌, ◌&&◌, nat_lt, List, Option, Some, None, count_by}
+use Rattle.std.specs.Prelude.{ℕ, Bool, true, ◌==◌, ◌&&◌, nat_lt, List, Option, Some, None, count_by, if◌then◌else◌}
 use Rattle.std.specs.List.{list_any, list_all}
 use Rattle.vn_types.specs.declared.address.Ip4.{Ip4}
 use Rattle.vn_types.specs.declared.interface.IfOf.TheVariants.{Half}
@@ -13,7 +13,7 @@ use Rattle.vn_rules.specs.declared.timer.TimerOf.TheVariants.{Arp, Ping}
 use Rattle.vn_rules.specs.declared.parts.PartsOf.{PartsOf}
 use Rattle.vn_rules.specs.Interfaces.{named_ifs, is_among}
 use Rattle.vn_rules.specs.Addresses.{local, is_address_of}
-use Rattle.vn_rules.specs.Arp.{is_timer_at}
+use Rattle.vn_rules.specs.Arp.{is_entry_at, is_timer_at}
 use Rattle.vn_rules.specs.Pings.{is_timer_for}
 use Rattle.vn_rules.specs.Orders.{are_distinct, keeps_orders}
 use Rattle.vn_rules.specs.Routes.{Routed, covers}
@@ -71,6 +71,15 @@ module _ {N : Type 0} (same : N → N → Bool) where
       (λ (e : ArpEntryOf N). count_by (is_timer_at same e) p.timers.standing == timers_wanted e.state)
       p.arp
 
+  -- the same, but that the entry of the address on the half has none
+  unfoldable pub times_arp_but : N → Ip4 → PartsOf N → Bool
+  times_arp_but half ip p =
+      list_all
+      (λ (e : ArpEntryOf N).
+      count_by (is_timer_at same e) p.timers.standing
+      == (if is_entry_at same half ip e then 0 else timers_wanted e.state))
+      p.arp
+
   -- whether two ARP entries are of one address on one half
   abbrev pub is_same_entry : ArpEntryOf N → ArpEntryOf N → Bool
   is_same_entry a b = same a.half b.half && (a.ip.0 == b.ip.0)
@@ -101,12 +110,24 @@ module _ {N : Type 0} (same : N → N → Bool) where
 
   -- ARP entries are one for each address and have their timers and routes, routes their addresses,
   -- and timers and awaited pings arm numbers of their own
-  abbrev pub keeps_tables : PartsOf N → Bool
-  keeps_tables p =
-      has_distinct_entries p.arp && times_arp p && covers_arp p && founds_routes p && gave_arms p
+  abbrev pub keeps_tables_by : (PartsOf N → Bool) → PartsOf N → Bool
+  keeps_tables_by times p =
+      has_distinct_entries p.arp && times p && covers_arp p && founds_routes p && gave_arms p
       && has_distinct_arms p.pings.awaited
 
-  -- all that the parts of a stack keep among themselves, and each for itself
+  abbrev pub keeps_tables : PartsOf N → Bool
+  keeps_tables p = keeps_tables_by times_arp p
+
+  -- all that the parts of a stack keep among themselves, and each for itself, by the test on the timers of
+  -- ARP entries
+  abbrev pub is_sound_by : (PartsOf N → Bool) → PartsOf N → Bool
+  is_sound_by times p =
+      names_own p && binds_locally p && keeps_timers p && keeps_tables_by times p && keeps_orders p
+
+  -- where each has its own
   abbrev pub is_sound_parts : PartsOf N → Bool
-  is_sound_parts p =
-      names_own p && binds_locally p && keeps_timers p && keeps_tables p && keeps_orders p
+  is_sound_parts p = is_sound_by times_arp p
+
+  -- where that entry's is taken out
+  abbrev pub is_sound_but : N → Ip4 → PartsOf N → Bool
+  is_sound_but half ip p = is_sound_by (times_arp_but half ip) p
