@@ -1,3 +1,5 @@
+pub mod ListEdits
+pub mod ListTests
 pub mod Renaming
 pub mod NetworkLaws
 pub mod TimerOrder
@@ -7,3 +9,7 @@ pub mod SceneLaws
 pub mod OrderLaws
 pub mod Constructed
 pub mod SoundRenamed
+pub mod PortLaws
+pub mod SocketLaws
+pub mod SoundFacts
+pub mod SocketSound

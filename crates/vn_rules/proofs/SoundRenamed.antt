@@ -1,11 +1,8 @@
 -- Soundness under other names of halves: each of its tests goes through a renaming that keeps the test on names.
-use Rattle.std.proofs.Common.{◌≡◌, Bool, cond, not, ◌&&◌, ◌||◌, is_some, is_none, ◌==◌, nat_le, List, [], ◌∷◌, map, Option, Some, None, refl, sym, ap, ap₂, ◌∙◌}
-use Rattle.std.specs.List.{list_all, count_by, sum}
+use Rattle.std.proofs.Common.{◌≡◌, Bool, ◌&&◌, ◌||◌, is_some, is_none, ◌==◌, nat_le, List, map, Option, Some, None, refl, ap, ap₂, ◌∙◌}
+use Rattle.std.specs.List.{list_all}
 use Rattle.std.proofs.lemmas.List.{length-map}
-use Rattle.std.proofs.lemmas.List.Folds.{list_all-map}
-use Rattle.std.proofs.lemmas.List.Sums.{sum-map}
 use Rattle.std.proofs.lemmas.Map.Made.{keys_of-map_values}
-use Rattle.std.proofs.lemmas.Simd.{map-map}
 use Rattle.vn_types.specs.declared.address.Ip4.{Ip4}
 use Rattle.vn_types.specs.declared.interface.IfOf.{IfOf}
 use Rattle.vn_types.specs.declared.interface.IfOf.TheVariants.{Half}
@@ -25,7 +22,7 @@ use Rattle.vn_rules.specs.declared.timer.TimerOf.TheVariants.{Arp, Ping}
 use Rattle.vn_rules.specs.declared.parts.PartsOf.{PartsOf}
 use Rattle.vn_rules.specs.Interfaces.{named_ifs, is_among}
 use Rattle.vn_rules.specs.Networks.{lies_in}
-use Rattle.vn_rules.specs.Orders.{are_rising, are_distinct, has_16_bits, is_network, is_right_in, are_addresses, are_routes, are_arp_entries, is_socket, are_sockets, are_timers, are_pings, keeps_orders}
+use Rattle.vn_rules.specs.Orders.{are_rising, has_16_bits, is_network, is_right_in, are_addresses, are_routes, are_arp_entries, is_socket, are_sockets, are_timers, are_pings, keeps_orders}
 use Rattle.vn_rules.specs.Renamed.{as_addr, as_target, as_routed, as_arp, as_ping, as_pings, as_gram, as_socket, as_timer, as_timed, as_timers, renamed}
 use Rattle.vn_rules.specs.Routes.{Routed, prefix_cmp, is_link_on, covers}
 use Rattle.vn_rules.specs.Addresses.{is_address_of}
@@ -35,25 +32,8 @@ use Rattle.vn_rules.specs.Soundness.{is_bound_locally, binds_locally, times_ping
 use Rattle.vn_rules.specs.Ports.{are_in_conflict}
 use Rattle.vn_rules.specs.Timers.{Timed, turn_cmp}
 use Rattle.vn_rules.proofs.AddressLaws.{local-renamed}
+use Rattle.vn_rules.proofs.ListTests.{all_map_same, count_map_same, distinct_map_same}
 use Rattle.vn_rules.proofs.Renaming.{named_ifs-renamed, is_among-renamed}
-
--- ---- tests over a list, where the renaming of its elements keeps the test
-
-module _ {A B : Type 0} (f : A → B) (p : A → Bool) (q : B → Bool) (kept : (x : A) → q (f x) ≡ p x) where
-  all_map_same : (xs : List A) → list_all q (map f xs) ≡ list_all p xs
-  all_map_same xs = list_all-map q f xs ∙ (λ i. list_all (λ x. kept x i) xs)
-
-  count_map_same : (xs : List A) → count_by q (map f xs) ≡ count_by p xs
-  count_map_same xs =
-      sym (sum-map (λ y. cond (q y) 1 0) (map f xs)) ∙ ap sum (map-map (λ y. cond (q y) 1 0) f xs)
-      ∙ sum-map (λ x. cond (q (f x)) 1 0) xs
-      ∙ (λ i. count_by (λ x. kept x i) xs)
-
-module _ {A B : Type 0} (f : A → B) (p : A → A → Bool) (q : B → B → Bool) (kept : (x y : A) → q (f x) (f y) ≡ p x y) where
-  distinct_map_same : (xs : List A) → are_distinct q (map f xs) ≡ are_distinct p xs
-  distinct_map_same [] = refl
-  distinct_map_same (x ∷ xs) =
-      ap₂ (λ found rest. not found && rest) (any_map_same f (p x) (q (f x)) (kept x) xs) (distinct_map_same xs)
 
 -- ---- tests that name no half
 

@@ -1,5 +1,5 @@
 -- The ARP entries of a stack, in order of making (arp(4)), and the timers that belong to them.
-use Rattle.std.specs.Prelude.{ℕ, ◌-◌, Bool, true, false, not, ◌&&◌, ◌||◌, ◌==◌, nat_le, is_none, List, [], ◌∷◌, ◌++◌, length, drop, map, Option, Some, None, if◌then◌else◌}
+use Rattle.std.specs.Prelude.{ℕ, ◌-◌, Bool, true, false, not, ◌&&◌, ◌==◌, nat_le, List, [], ◌∷◌, ◌++◌, length, drop, map, Option, Some, None, if◌then◌else◌}
 use Rattle.std.specs.List.{filter, find, list_any}
 use Rattle.std.specs.Option.{option_map_or, option_and_then}
 use Rattle.vn_types.specs.declared.address.Ip4.{Ip4}
@@ -7,7 +7,7 @@ use Rattle.vn_types.specs.declared.address.Mac.{Mac}
 use Rattle.vn_rules.specs.declared.arp.ArpEntryOf.{ArpEntryOf}
 use Rattle.vn_rules.specs.declared.arp.ArpState.{ArpState}
 use Rattle.vn_rules.specs.declared.arp.ArpState.TheVariants.{Incomplete, Learnt, Static, Down}
-use Rattle.vn_rules.specs.declared.arp.TheConstants.{HELD_MAX, REQUESTS_MAX}
+use Rattle.vn_rules.specs.declared.arp.TheConstants.{HELD_MAX}
 use Rattle.vn_rules.specs.declared.timer.TimerOf.{TimerOf}
 use Rattle.vn_rules.specs.declared.timer.TimerOf.TheVariants.{Arp, Ping}
 use Rattle.vn_rules.specs.declared.timer.TimersOf.{TimersOf}

@@ -15,6 +15,7 @@ pub mod Construction
 pub mod Orders
 pub mod Soundness
 pub mod Rules
+pub mod Errors
 pub mod Purge
 pub mod Scenes
 pub mod Named

@@ -1,5 +1,5 @@
 -- The open UDP sockets of a stack, in order of opening (udp(4)).
-use Rattle.std.specs.Prelude.{ℕ, Bool, true, false, not, ◌==◌, ◌&&◌, nat_le, is_some, is_none, List, [], ◌∷◌, ◌++◌, length, drop, map, Option, Some, None, Result, slice_get, if◌then◌else◌}
+use Rattle.std.specs.Prelude.{ℕ, Bool, true, false, not, ◌==◌, ◌&&◌, nat_le, List, [], ◌∷◌, ◌++◌, length, drop, map, Option, Some, None, slice_get, if◌then◌else◌}
 use Rattle.std.specs.List.{filter, find, position, slice_set}
 use Rattle.std.specs.Option.{option_map_or, option_and_then, option_or}
 use Rattle.std.specs.Str.{bytes_eq}

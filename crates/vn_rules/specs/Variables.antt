@@ -1,7 +1,10 @@
 -- The declared variables with their bounds, and those of one stack with values (sysctl(8), VNET(9)).
-use Rattle.std.specs.Prelude.{ℕ, Bool, true, false, ◌&&◌, nat_le, List, [], ◌∷◌, ◌++◌, map, find, codes, Option, option_map, if◌then◌else◌}
+use Rattle.std.specs.Prelude.{ℕ, Bool, true, false, not, ◌&&◌, ◌==◌, nat_le, is_none, unwrap_or, List, [], ◌∷◌, ◌++◌, map, find, codes, Option, option_map, if◌then◌else◌}
 use Rattle.std.specs.Str.{bytes_eq}
 use Rattle.std.specs.Map.{lookup}
+use Rattle.std.specs.Option.{option_map_or}
+use Rattle.vn_types.specs.declared.errno.Errno.{Errno}
+use Rattle.vn_types.specs.declared.errno.Errno.TheVariants as errno
 use Rattle.vn_rules.specs.declared.variable.Bounds.{Bounds}
 use Rattle.vn_rules.specs.declared.variable.Variable.{Variable}
 
@@ -64,3 +67,31 @@ declarations =
 -- with their first values
 abbrev pub declared_variables : List Variable
 declared_variables = first_variables declarations
+
+-- ---- sysctl(8)
+
+-- why a variable is not read
+abbrev pub get_refusals : List ℕ → List Variable → List (Bool × Errno)
+get_refusals name variables = (is_none (value_of name variables), errno.NoEnt) ∷ []
+
+-- why it does not take a value
+abbrev pub set_refusals : List ℕ → ℕ → List Declaration → List (Bool × Errno)
+set_refusals name value declared =
+    let bounds = bounds_of name declared in
+    (is_none bounds, errno.NoEnt) ∷ (not (option_map_or (λ b. allows b value) bounds true), errno.Inval) ∷ []
+
+-- the value of a variable that is declared
+abbrev pub number_in : List ℕ → List Variable → ℕ
+number_in name variables = unwrap_or (value_of name variables) 0
+
+-- whether datagrams for others are forwarded (RFC 1812, section 2.2.8.1: not, unless it is asked for)
+abbrev pub is_forwarding : List Variable → Bool
+is_forwarding variables = number_in (codes "net.inet.ip.forwarding") variables == 1
+
+-- the time to live of what is sent, where the sender sets none
+abbrev pub default_ttl : List Variable → ℕ
+default_ttl variables = number_in (codes "net.inet.ip.ttl") variables
+
+-- whether checksums of UDP datagrams are computed (RFC 768)
+abbrev pub has_udp_checksum : List Variable → Bool
+has_udp_checksum variables = number_in (codes "net.inet.udp.checksum") variables == 1
