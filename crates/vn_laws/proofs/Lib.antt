@@ -1,5 +1,7 @@
 pub mod edits
 pub mod rule
+pub mod pairs
+pub mod moves
 pub mod jails
 pub mod local
 pub mod Commands

@@ -7,4 +7,6 @@ pub mod Trees
 pub mod Standing
 pub mod Shapes
 pub mod Alike
+pub mod Twins
+pub mod Owned
 pub mod NamesOnce

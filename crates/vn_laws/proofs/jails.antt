@@ -3,3 +3,4 @@ pub mod Counted
 pub mod Created
 pub mod Kept
 pub mod Alike
+pub mod RemovedAlike

@@ -1,5 +1,5 @@
 -- The edits that keep two worlds alike.
-use Rattle.std.proofs.Common.{◌≡◌, Some, sym, ap, ◌∙◌}
+use Rattle.std.proofs.Common.{◌≡◌, Some, None, sym, ap, ◌∙◌}
 use Rattle.std.specs.Prelude.{if◌then◌else◌}
 use Rattle.std.specs.Option.{option_map}
 use Rattle.vn_cells.specs.declared.cell.Cells.{Cells}
@@ -8,9 +8,9 @@ use Rattle.vn_cells.specs.declared.world.Live.{Live}
 use Rattle.vn_cells.specs.declared.world.Stack.{Stack}
 use Rattle.vn_cells.specs.declared.world.Pair.{Pair}
 use Rattle.vn_cells.specs.world.Names.{Path, Key, path_eq, key_eq}
-use Rattle.vn_cells.specs.world.World.{no_stack, live_map, edit_stack, each_stack, edit_live, add_pair, each_pair}
+use Rattle.vn_cells.specs.world.World.{no_stack, live_map, edit_stack, each_stack, edit_live, add_pair, drop_pair, each_pair}
 use Rattle.vn_laws.specs.Relations.{Alike}
-use Rattle.vn_laws.proofs.edits.Cells.{none_lives, stack_at-edit_stack, stack_at-each_stack, stack_at-add_pair, stack_at-each_pair, pair_at-edit_stack, pair_at-each_stack, pair_at-add_pair, pair_at-each_pair, clock-edit_stack, clock-each_stack, clock-add_pair, clock-each_pair}
+use Rattle.vn_laws.proofs.edits.Cells.{none_lives, stack_at-edit_stack, stack_at-each_stack, stack_at-add_pair, stack_at-drop_pair, stack_at-each_pair, pair_at-edit_stack, pair_at-each_stack, pair_at-add_pair, pair_at-drop_pair, pair_at-each_pair, clock-edit_stack, clock-each_stack, clock-add_pair, clock-drop_pair, clock-each_pair}
 
 module _ {set : Cells} {v w : World} (a : Alike set v w) where
   pub alike-edit_stack : (p : Path) (f : Stack → Stack) → Alike set (edit_stack p f v) (edit_stack p f w)
@@ -38,6 +38,13 @@ module _ {set : Cells} {v w : World} (a : Alike set v w) where
     clock = simp clock-add_pair a.clock;
     stacks = λ p h. simp stack_at-add_pair (a.stacks p h);
     pairs = λ k h. simp pair_at-add_pair (ap (λ o. if key_eq k q then Some pair else o) (a.pairs k h));
+  }
+
+  pub alike-drop_pair : (q : Key) → Alike set (drop_pair q v) (drop_pair q w)
+  alike-drop_pair q = record {
+    clock = simp clock-drop_pair a.clock;
+    stacks = λ p h. simp stack_at-drop_pair (a.stacks p h);
+    pairs = λ k h. simp pair_at-drop_pair (ap (λ o. if key_eq k q then None else o) (a.pairs k h));
   }
 
   pub alike-each_pair : (f : Key → Pair → Pair) → Alike set (each_pair f v) (each_pair f w)

@@ -1,5 +1,5 @@
 -- What stands in each cell after each edit.
-use Rattle.std.proofs.Common.{◌≡◌, ◌≢◌, ap, Bool, true, false, Option, Some, None, refl, sym, ◌∙◌, subst, arith}
+use Rattle.std.proofs.Common.{◌≡◌, ◌≢◌, ap, Bool, true, false, not, Option, Some, None, refl, sym, ◌∙◌, subst, arith}
 use Rattle.std.specs.Prelude.{if◌then◌else◌, unwrap_or}
 use Rattle.std.specs.Option.{option_map, is_some}
 use Rattle.std.proofs.lemmas.Bool.{false_from_ne_true}
@@ -11,7 +11,9 @@ use Rattle.vn_cells.specs.declared.world.World.{World}
 use Rattle.vn_cells.specs.declared.world.Stack.{Stack}
 use Rattle.vn_cells.specs.declared.world.Live.{Live}
 use Rattle.vn_cells.specs.declared.world.Pair.{Pair}
-use Rattle.vn_cells.specs.world.World.{no_stack, stack_at, pair_at, is_alive, edit_stack, each_stack, edit_live, live_map, add_pair, each_pair}
+use Rattle.vn_cells.specs.world.World.{no_stack, stack_at, pair_at, is_alive, edit_stack, each_stack, edit_live, live_map, add_pair, drop_pair, each_pair}
+use Rattle.std.proofs.lemmas.List.Kept.{IsStrictlySortedBy-filter}
+use Rattle.vn_laws.proofs.edits.Lists.{find-without, keys_of-without}
 use Rattle.vn_types.proofs.EntryLaws.{find-put, find-each, listed-find}
 use Rattle.vn_types.proofs.EntryLaws.{sorted-put, keys_of-each}
 use Rattle.std.specs.List.Sorted.{IsStrictlySortedBy}
@@ -66,6 +68,18 @@ pub clock-add_pair : (k : Key) (pair : Pair) (w : World) → (add_pair k pair w)
 unfolding add_pair
 clock-add_pair k pair w = refl
 
+pub stack_at-drop_pair : (k : Key) (w : World) (q : Path) → stack_at (drop_pair k w) q ≡ stack_at w q
+unfolding stack_at drop_pair
+stack_at-drop_pair k w q = refl
+
+pub pair_at-drop_pair : (q : Key) (w : World) (k : Key) → pair_at (drop_pair q w) k ≡ (if key_eq k q then None else pair_at w k)
+unfolding pair_at drop_pair
+pair_at-drop_pair q w k = find-without key_cmp key_eq-Decides key_ties q w.pairs k
+
+pub clock-drop_pair : (k : Key) (w : World) → (drop_pair k w).clock ≡ w.clock
+unfolding drop_pair
+clock-drop_pair k w = refl
+
 pub clock-each_pair : (f : Key → Pair → Pair) (w : World) → (each_pair f w).clock ≡ w.clock
 unfolding each_pair
 clock-each_pair f w = refl
@@ -117,6 +131,12 @@ pub ordered_pairs-each_pair : (f : Key → Pair → Pair) (w : World) → Ordere
 unfolding each_pair
 ordered_pairs-each_pair f w s = subst (IsStrictlySortedBy key_cmp) (sym (keys_of-each f w.pairs)) s
 
+pub ordered_pairs-drop_pair : (k : Key) (w : World) → OrderedPairs w → OrderedPairs (drop_pair k w)
+unfolding drop_pair
+ordered_pairs-drop_pair k w s =
+    subst (IsStrictlySortedBy key_cmp) (sym (keys_of-without key_eq k w.pairs))
+    (IsStrictlySortedBy-filter key_cmp (λ q. not (key_eq q k)) (keys_of w.pairs) s)
+
 -- edits of one kind of cell leave the other's list
 pub pairs-each_stack : (f : Path → Stack → Stack) (w : World) → (each_stack f w).pairs ≡ w.pairs
 unfolding each_stack
@@ -133,6 +153,10 @@ pairs-edit_stack p f w = refl
 pub stacks-add_pair : (k : Key) (pair : Pair) (w : World) → (add_pair k pair w).stacks ≡ w.stacks
 unfolding add_pair
 stacks-add_pair k pair w = refl
+
+pub stacks-drop_pair : (k : Key) (w : World) → (drop_pair k w).stacks ≡ w.stacks
+unfolding drop_pair
+stacks-drop_pair k w = refl
 
 -- what lives is listed
 pub alive_listed : (w : World) (p : Path) → is_alive w p ≡ true → list_any (path_eq p) (keys_of w.stacks) ≡ true

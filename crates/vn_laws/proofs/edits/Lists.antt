@@ -1,6 +1,7 @@
 -- Sorted lists are told apart by their members.
-use Rattle.std.proofs.Common.{◌≡◌, ◌+◌, Bool, true, false, ◌&&◌, ◌||◌, not, cond, List, [], ◌∷◌, length, refl, sym, ap, ◌∙◌, subst, arith}
-use Rattle.std.specs.Prelude.{filter}
+use Rattle.std.proofs.Common.{◌≡◌, ◌+◌, Bool, true, false, ◌&&◌, ◌||◌, not, cond, List, [], ◌∷◌, length, Some, None, refl, sym, ap, ◌∙◌, subst, arith}
+use Rattle.std.specs.Prelude.{filter, if◌then◌else◌}
+use Rattle.std.specs.Map.{keys_of}
 use Rattle.std.specs.List.{list_any, AllByRecursion}
 use Rattle.std.specs.List.Sorted.{IsStrictlySortedBy}
 use Rattle.std.specs.Bool.{Decides}
@@ -10,6 +11,7 @@ use Rattle.std.specs.declared.cmp.Ordering.{Ordering}
 use Rattle.std.specs.declared.cmp.Ordering.TheVariants.{Less, Equal, Greater}
 use Rattle.std.proofs.lemmas.List.Kept.{IsStrictlySortedBy-filter}
 use Rattle.std.proofs.lemmas.Bool.{true≢false}
+use Rattle.vn_types.specs.Entries.{find}
 use Rattle.vn_types.proofs.EntryLaws.{below_all}
 
 module _ {K : Type 0} (cmp : K → K → Ordering) {eq : K → K → Bool} (o : IsTotalOrder cmp) (decides : (a b : K) → Decides (eq a b) (a ≡ b)) (ties : (a b : K) → eq a b ≡ is_eq (cmp a b)) where
@@ -103,3 +105,30 @@ module _ {K : Type 0} (cmp : K → K → Ordering) {eq : K → K → Bool} (o : 
           omega arith
       by false e true g ih = let n = ih (more e) in omega arith
       by false e false g ih = ih (more e)
+
+-- ---- without a key
+
+module _ {K V : Type 0} (cmp : K → K → Ordering) {eq : K → K → Bool} (decides : (a b : K) → Decides (eq a b) (a ≡ b)) (ties : (a b : K) → eq a b ≡ is_eq (cmp a b)) where
+  abbrev without : K → List (K × V) → List (K × V)
+  without k es = filter (λ (e : K × V). not (eq e.0 k)) es
+
+  pub find-without : (k : K) (es : List (K × V)) (q : K) → find cmp q (without k es) ≡ (if eq q k then None else find cmp q es)
+  unfolding find
+  find-without k [] q = grind arith
+  find-without k (e ∷ es) q = by (eq e.0 k) refl (is_eq (cmp q e.0)) refl (find-without k es q)
+    where
+      by : (a : Bool) → eq e.0 k ≡ a → (b : Bool) → is_eq (cmp q e.0) ≡ b → find cmp q (without k es) ≡ (if eq q k then None else find cmp q es)
+          → find cmp q (cond (not a) (e ∷ without k es) (without k es)) ≡ (if eq q k then None else cond b (Some e.1) (find cmp q es))
+      by true f true g ih = let same : q ≡ k = (decides q e.0).0 (ties q e.0 ∙ g) ∙ (decides e.0 k).0 f in grind (arith, ih, (decides q k).1 same)
+      by true f false g ih = let apart : eq q k ≡ false = grind (arith, decides q k, decides e.0 k, decides q e.0, ties q e.0, f, g) in grind (arith, ih, apart)
+      by false f true g ih = let apart : eq q k ≡ false = grind (arith, decides q k, decides e.0 k, decides q e.0, ties q e.0, f, g) in rw (g, apart) refl
+      by false f false g ih = rw g ih
+
+pub keys_of-without : {K V : Type 0} (eq : K → K → Bool) (k : K) (es : List (K × V)) → keys_of (filter (λ (e : K × V). not (eq e.0 k)) es) ≡ filter (λ q. not (eq q k)) (keys_of es)
+keys_of-without eq k [] = refl
+keys_of-without {K} {V} eq k (e ∷ es) = by (not (eq e.0 k)) (keys_of-without eq k es)
+  where
+    by : (b : Bool) → keys_of (filter (λ (e : K × V). not (eq e.0 k)) es) ≡ filter (λ q. not (eq q k)) (keys_of es)
+        → keys_of (cond b (e ∷ filter (λ (e : K × V). not (eq e.0 k)) es) (filter (λ (e : K × V). not (eq e.0 k)) es)) ≡ cond b (e.0 ∷ filter (λ q. not (eq q k)) (keys_of es)) (filter (λ q. not (eq q k)) (keys_of es))
+    by true ih = ap (λ ks. e.0 ∷ ks) ih
+    by false ih = ih

@@ -1,0 +1,2 @@
+-- ifconfig(8): halves move.
+pub mod Alike

@@ -1,0 +1,2 @@
+-- epair(4): pairs are made, changed and destroyed.
+pub mod Alike
