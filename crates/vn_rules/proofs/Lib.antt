@@ -13,3 +13,6 @@ pub mod PortLaws
 pub mod SocketLaws
 pub mod SoundFacts
 pub mod SocketSound
+pub mod SocketEdits
+pub mod SocketKept
+pub mod SocketQueues

@@ -1,9 +1,11 @@
 -- Tests over lists: through a renaming, and where an element is changed, added or taken away.
-use Rattle.std.proofs.Common.{◌≡◌, Bool, true, false, cond, not, ◌&&◌, List, [], ◌∷◌, ◌++◌, map, Some, refl, sym, ap, ap₂, ◌∙◌}
-use Rattle.std.specs.List.{list_any, list_all, filter, find, flat_map, count_by, sum}
+use Rattle.std.proofs.Common.{None, Option, ◌||◌, ◌≡◌, Bool, true, false, cond, not, ◌&&◌, List, [], ◌∷◌, ◌++◌, map, Some, refl, sym, ap, ap₂, ◌∙◌, arith, ℕ, ◌+◌, ◌≤◌, zero, suc}
+use Rattle.std.specs.List.{list_any, list_all, filter, find, flat_map, count_by, sum, slice_set}
+use Rattle.std.specs.Prelude.{slice_get}
+use Rattle.std.specs.Option.{option_map_or}
 use Rattle.std.proofs.lemmas.Bool.{and_parts, and_from, or_parts, or_from, not-true, not_from_false, both_ways}
 use Rattle.std.proofs.lemmas.List.Folds.{list_all-map, list_all-append}
-use Rattle.std.proofs.lemmas.List.Sums.{sum-map}
+use Rattle.std.proofs.lemmas.List.Sums.{sum-map, sum_by-cons}
 use Rattle.std.proofs.lemmas.Simd.{map-map}
 use Rattle.vn_types.proofs.ListMaps.{any_map_same}
 use Rattle.vn_rules.specs.Orders.{are_distinct}
@@ -157,6 +159,34 @@ module _ {A : Type 0} (p : A → Bool) where
           ap₂ (λ y ys. y ∷ ys) (ap f same) (unchanged f xs rest ∙ sym (unchanged (λ _. f s) xs rest))
       by false is found none more = ap (λ ys. x ∷ ys) (more found)
 
+  none_counted : (xs : List A) → list_any p xs ≡ false → count_by p xs ≡ 0
+  none_counted [] clear = refl
+  none_counted (x ∷ xs) clear =
+      let parts = or_parts (p x) _ clear in
+      let rest : count_by p xs ≡ 0 = none_counted xs parts.1 in
+      let here : cond {A = ℕ} (p x) 1 0 ≡ 0 = rw parts.0 refl in
+      let all : count_by p (x ∷ xs) ≡ cond (p x) 1 0 + count_by p xs = sum_by-cons (λ z. cond (p z) 1 0) x xs in
+      omega arith
+
+  -- where no two pass, at most one does
+  pub at_most_one : (xs : List A) → are_distinct both_pass xs ≡ true → count_by p xs ≤ 1
+  at_most_one [] one = omega arith
+  at_most_one (x ∷ xs) one = let parts = and_parts (not (list_any (both_pass x) xs)) _ one in by (p x) refl (not-true _ parts.0) (at_most_one xs parts.1)
+    where
+      all : count_by p (x ∷ xs) ≡ cond (p x) 1 0 + count_by p xs
+      all = sum_by-cons (λ z. cond (p z) 1 0) x xs
+
+      by : (b : Bool) → p x ≡ b → list_any (both_pass x) xs ≡ false → count_by p xs ≤ 1 → count_by p (x ∷ xs) ≤ 1
+      by true is clear more =
+          let none : count_by p xs ≡ 0 = none_counted xs (none_more x is xs clear) in
+          let here : cond {A = ℕ} (p x) 1 0 ≡ 1 = rw is refl in
+          let whole : count_by p (x ∷ xs) ≡ cond (p x) 1 0 + count_by p xs = all in
+          omega arith
+      by false is clear more =
+          let here : cond {A = ℕ} (p x) 1 0 ≡ 0 = rw is refl in
+          let whole : count_by p (x ∷ xs) ≡ cond (p x) 1 0 + count_by p xs = all in
+          omega arith
+
   module _ (same : A → A → Bool) (flip : (x y : A) → same x y ≡ same y x) where
     none_flip : (t : A) (xs : List A) → list_any (same t) xs ≡ list_any (λ x. same x t) xs
     none_flip t xs = λ i. list_any (λ x. flip t x i) xs
@@ -213,3 +243,36 @@ module _ {A : Type 0} (p : A → Bool) where
         by false is none one apart rest more =
             let parts = or_parts (same t x) _ none in
             and_from _ _ (not_from_false _ (edited x xs (flip x t ∙ parts.0) apart)) (more parts.1)
+
+-- ---- the element at a place
+
+module _ {A : Type 0} (f : A → A) where
+  -- the element at a place is changed, where there is one
+  abbrev pub placed : ℕ → List A → List A
+  placed place xs = option_map_or (λ x. slice_set xs place (f x)) (slice_get xs place) xs
+
+  placed-later : (place : ℕ) (x : A) (xs : List A) → placed (suc place) (x ∷ xs) ≡ x ∷ placed place xs
+  placed-later place x xs = by (slice_get xs place)
+    where
+      by : (o : Option A) → option_map_or (λ y. x ∷ slice_set xs place (f y)) o (x ∷ xs) ≡ x ∷ option_map_or (λ y. slice_set xs place (f y)) o xs
+      by None = refl
+      by (Some y) = refl
+
+  pub all_placed : (q : A → Bool) → ((x : A) → q x ≡ true → q (f x) ≡ true) → (place : ℕ) (xs : List A) → list_all q xs ≡ true → list_all q (placed place xs) ≡ true
+  all_placed q kept place [] all = all
+  all_placed q kept zero (x ∷ xs) all = let parts = and_parts (q x) _ all in and_from _ _ (kept x parts.0) parts.1
+  all_placed q kept (suc place) (x ∷ xs) all =
+      let parts = and_parts (q x) _ all in ap (list_all q) (placed-later place x xs) ∙ and_from _ _ parts.0 (all_placed q kept place xs parts.1)
+
+  pub any_placed : (q : A → Bool) → ((x : A) → q (f x) ≡ q x) → (place : ℕ) (xs : List A) → list_any q (placed place xs) ≡ list_any q xs
+  any_placed q kept place [] = refl
+  any_placed q kept zero (x ∷ xs) = ap (λ b. b || list_any q xs) (kept x)
+  any_placed q kept (suc place) (x ∷ xs) = ap (list_any q) (placed-later place x xs) ∙ ap (λ b. q x || b) (any_placed q kept place xs)
+
+  pub distinct_placed : (same : A → A → Bool) → ((x y : A) → same (f x) y ≡ same x y) → ((x y : A) → same x (f y) ≡ same x y) → (place : ℕ) (xs : List A)
+      → are_distinct same (placed place xs) ≡ are_distinct same xs
+  distinct_placed same left right place [] = refl
+  distinct_placed same left right zero (x ∷ xs) = λ i. not (list_any (λ y. left x y i) xs) && are_distinct same xs
+  distinct_placed same left right (suc place) (x ∷ xs) =
+      ap (are_distinct same) (placed-later place x xs)
+      ∙ ap₂ (λ found rest. not found && rest) (any_placed (same x) (right x) place xs) (distinct_placed same left right place xs)
