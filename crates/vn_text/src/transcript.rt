@@ -2,12 +2,13 @@ ghost use Rattle.std.specs.Prelude.{◌≡◌, ◌++◌, ◌∷◌, codes, decim
 ghost use Rattle.std.specs.Io.{StartsWith};
 ghost use Rattle.vn_types.specs.AddressWords.{ip4_text};
 ghost use Rattle.vn_types.specs.Errors.{errno_name, errno_number};
+ghost use Rattle.vn_cells.specs.declared.transcript.What.TheVariants as what;
 ghost use Rattle.vn_cells.specs.texts.Text.{command_text, entry_line, lane_text, outcome_text, table_text, what_text};
 
 use crate::command::put_command;
-use crate::put::{put, put_number};
+use crate::put::{put, put_number, put_with_ip4};
 use vn_cells::{Command, Entry, Outcome, Table, What};
-use vn_types::{Errno, Ip4, NoMemory, write_ip4};
+use vn_types::{Errno, Ip4, NoMemory};
 
 /// Puts an entry's line at the end of the output.
 pub(crate) fn put_entry(entry: &Entry, out: &mut Vec<u8>) -> Result<(), NoMemory>
@@ -52,7 +53,7 @@ fn put_what(what: &What, out: &mut Vec<u8>) -> Result<(), NoMemory>
             from,
             id,
         } => put_icmp(*kind, *code, *from, *id, out),
-        What::Timeout { ip, id } => put_timeout(*ip, *id, out),
+        What::Timeout { ip, id } => put_ping(b"- timeout ", *ip, *id, out),
     }
 }
 
@@ -114,45 +115,34 @@ fn put_reply(from: Ip4, id: u16, ttl: u8, bytes: u16, out: &mut Vec<u8>) -> Resu
         ++ codes " ttl " ++ decimal ttl ++ codes " bytes " ++ decimal bytes) }
     ensures front { StartsWith out.new.items out.old.items }
 {
-    put(b"- reply ", out)?;
-    write_ip4(from, out)?;
-    put_id(id, out)?;
+    put_ping(b"- reply ", from, id, out)?;
     put(b" ttl ", out)?;
     put_number(u64::from(ttl), out)?;
     put(b" bytes ", out)?;
     put_number(u64::from(bytes), out)
 }
 
+/// An ICMP error about a ping.
+#[tactic(auto, unfolding(vn_cells::specs::texts::Text::what_text))]
 fn put_icmp(kind: u8, code: u8, from: Ip4, id: u16, out: &mut Vec<u8>) -> Result<(), NoMemory>
     ensures put { OnOk result (out.new.items
-        ≡ out.old.items ++ codes "- icmp " ++ decimal kind ++ codes "/" ++ decimal code
-        ++ codes " from " ++ ip4_text from ++ codes " id " ++ decimal id) }
+        ≡ out.old.items ++ what_text (what.Icmp kind code from id)) }
     ensures front { StartsWith out.new.items out.old.items }
 {
     put(b"- icmp ", out)?;
     put_number(u64::from(kind), out)?;
     put(b"/", out)?;
     put_number(u64::from(code), out)?;
-    put(b" from ", out)?;
-    write_ip4(from, out)?;
-    put_id(id, out)
+    put_ping(b" from ", from, id, out)
 }
 
-fn put_timeout(ip: Ip4, id: u16, out: &mut Vec<u8>) -> Result<(), NoMemory>
+/// A text, and the ping that it is about: its address and the identifier of its echo request (RFC 792).
+fn put_ping(text: &[u8], ip: Ip4, id: u16, out: &mut Vec<u8>) -> Result<(), NoMemory>
     ensures put { OnOk result (out.new.items
-        ≡ out.old.items ++ codes "- timeout " ++ ip4_text ip ++ codes " id " ++ decimal id) }
+        ≡ out.old.items ++ text.now ++ ip4_text ip ++ codes " id " ++ decimal id) }
     ensures front { StartsWith out.new.items out.old.items }
 {
-    put(b"- timeout ", out)?;
-    write_ip4(ip, out)?;
-    put_id(id, out)
-}
-
-/// The identifier of a ping's echo request (RFC 792).
-fn put_id(id: u16, out: &mut Vec<u8>) -> Result<(), NoMemory>
-    ensures put { OnOk result (out.new.items ≡ out.old.items ++ codes " id " ++ decimal id) }
-    ensures front { StartsWith out.new.items out.old.items }
-{
+    put_with_ip4(text, ip, out)?;
     put(b" id ", out)?;
     put_number(u64::from(id), out)
 }

@@ -2,16 +2,15 @@ ghost use Rattle.std.specs.Prelude.{◌≡◌, ◌++◌, OnOk};
 ghost use Rattle.std.specs.Io.{StartsWith};
 ghost use Rattle.vn_cells.specs.texts.Programs.{arp_text, arp_removal_text};
 
-use crate::put::put;
-use vn_types::{Ip4, Mac, NoMemory, write_ip4, write_mac};
+use crate::put::{put, put_with_ip4};
+use vn_types::{Ip4, Mac, NoMemory, write_mac};
 
 /// The entries of an address are removed (arp(8), `-d`).
 pub(crate) fn put_arp_removal(ip: Ip4, out: &mut Vec<u8>) -> Result<(), NoMemory>
     ensures put { OnOk result (out.new.items ≡ out.old.items ++ arp_removal_text ip) }
     ensures front { StartsWith out.new.items out.old.items }
 {
-    put(b"arp -d ", out)?;
-    write_ip4(ip, out)
+    put_with_ip4(b"arp -d ", ip, out)
 }
 
 /// A static entry is set (arp(8), `-s`).
@@ -19,8 +18,7 @@ pub(crate) fn put_arp(ip: Ip4, mac: Mac, out: &mut Vec<u8>) -> Result<(), NoMemo
     ensures put { OnOk result (out.new.items ≡ out.old.items ++ arp_text ip mac) }
     ensures front { StartsWith out.new.items out.old.items }
 {
-    put(b"arp -s ", out)?;
-    write_ip4(ip, out)?;
+    put_with_ip4(b"arp -s ", ip, out)?;
     put(b" ", out)?;
     write_mac(mac, out)
 }

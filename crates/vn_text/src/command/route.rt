@@ -2,8 +2,8 @@ ghost use Rattle.std.specs.Prelude.{◌≡◌, ◌++◌, OnOk};
 ghost use Rattle.std.specs.Io.{StartsWith};
 ghost use Rattle.vn_cells.specs.texts.Programs.{destination_text, is_default, route_text, route_removal_text};
 
-use crate::put::{put, put_prefix};
-use vn_types::{Ip4, NoMemory, Prefix, write_ip4};
+use crate::put::{put, put_prefix, put_with_ip4};
+use vn_types::{Ip4, NoMemory, Prefix};
 
 /// A route by a gateway is added (route(8)).
 pub(crate) fn put_route(to: Prefix, via: Ip4, out: &mut Vec<u8>) -> Result<(), NoMemory>
@@ -12,8 +12,7 @@ pub(crate) fn put_route(to: Prefix, via: Ip4, out: &mut Vec<u8>) -> Result<(), N
 {
     put(b"route add ", out)?;
     put_destination(to, out)?;
-    put(b" ", out)?;
-    write_ip4(via, out)
+    put_with_ip4(b" ", via, out)
 }
 
 /// A route by a gateway is removed.

@@ -4,7 +4,7 @@ ghost use Rattle.std.specs.List.{flat_map};
 ghost use Rattle.vn_types.specs.AddressWords.{hex_octet};
 ghost use Rattle.vn_cells.specs.texts.Programs.{bind_text, connect_text, endpoint_text, local_text, payload_text, send_text, socket_text, socket_ttl_text};
 
-use crate::put::{put, put_number, put_octet};
+use crate::put::{put, put_assigned, put_number, put_octet};
 use vn_cells::Payload;
 use vn_types::{Ip4, NoMemory, SockName, write_ip4};
 
@@ -127,8 +127,5 @@ pub(crate) fn put_socket_ttl(sock: &SockName, ttl: u8, out: &mut Vec<u8>) -> Res
     ensures put { OnOk result (out.new.items ≡ out.old.items ++ socket_ttl_text sock.now ttl) }
     ensures front { StartsWith out.new.items out.old.items }
 {
-    put(b"udp ttl ", out)?;
-    put(sock.text(), out)?;
-    put(b" ", out)?;
-    put_number(u64::from(ttl), out)
+    put_assigned(b"udp ttl ", sock.text(), b" ", u64::from(ttl), out)
 }
