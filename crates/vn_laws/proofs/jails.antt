@@ -4,3 +4,4 @@ pub mod Created
 pub mod Kept
 pub mod Alike
 pub mod RemovedAlike
+pub mod RemovedBelongs

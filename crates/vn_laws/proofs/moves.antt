@@ -1,2 +1,3 @@
 -- ifconfig(8): halves move.
 pub mod Alike
+pub mod Belongs

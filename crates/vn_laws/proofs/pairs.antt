@@ -1,2 +1,3 @@
 -- epair(4): pairs are made, changed and destroyed.
 pub mod Alike
+pub mod Belongs

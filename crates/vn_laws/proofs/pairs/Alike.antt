@@ -10,6 +10,7 @@ use Rattle.vn_cells.specs.world.Names.{Key, If, key_of, half_on}
 use Rattle.vn_cells.specs.world.World.{pair_at, on_parts}
 use Rattle.vn_cells.specs.commands.Pairs.{attached, detached, new_pair, made_pair, unmade, destroyed_pair, destroyed_by, with_mac_on}
 use Rattle.vn_cells.specs.sets.Sets.{in_pairs}
+use Rattle.vn_laws.proofs.edits.Owned.{Owns}
 use Rattle.vn_laws.proofs.edits.Twins.{Twins, twins-edit_live, twins-add_pair, twins-drop_pair, twins-each_pair}
 
 module _ {set : Cells} {v w : World} (t : Twins set v w) where
@@ -29,13 +30,7 @@ module _ {set : Cells} {v w : World} (t : Twins set v w) where
           twins-drop_pair
           (twins-edit_live (twins-edit_live t pair.a.at (on_parts (detached (half_on A k)))) pair.b.at (on_parts (detached (half_on B k)))) k
 
-  -- whether an interface is none, or lo0, or a half of a pair of the set
-  abbrev pub Owns : Option If → Type 0
-  Owns None = Unit {0}
-  Owns (Some Lo0) = Unit {0}
-  Owns (Some (OfHalf h)) = in_pairs set (key_of h) ≡ true
-
-  pub twins-destroyed_by : (on : Option If) → Owns on → Twins set (destroyed_by on v) (destroyed_by on w)
+  pub twins-destroyed_by : (on : Option If) → Owns set on → Twins set (destroyed_by on v) (destroyed_by on w)
   unfolding destroyed_by
   twins-destroyed_by None own = t
   twins-destroyed_by (Some Lo0) own = t
