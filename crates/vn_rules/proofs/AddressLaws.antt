@@ -19,7 +19,7 @@ use Rattle.vn_rules.specs.Renamed.{as_addr}
 use Rattle.vn_rules.specs.Addresses.{is_half, prefix_of, has_broadcast, is_end, is_unfit, has_ip, local, add_refusal, after_add, is_broadcast_of, broadcast, address_at, is_at, on_interface, address_of, is_same, without_address, remove_answer, after_remove, after_purge, reaches, source_for, first}
 
 module _ {N M : Type 0} (r : N → M) where
-  is_half-renamed : (on : IfOf N) → is_half (as_if r on) ≡ is_half on
+  pub is_half-renamed : (on : IfOf N) → is_half (as_if r on) ≡ is_half on
   is_half-renamed Lo0 = refl
   is_half-renamed (Half n) = refl
 

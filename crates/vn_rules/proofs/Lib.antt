@@ -9,6 +9,8 @@ pub mod SceneLaws
 pub mod OrderLaws
 pub mod Constructed
 pub mod SoundRenamed
+pub mod ArpLaws
+pub mod ResolutionLaws
 pub mod PortLaws
 pub mod SocketLaws
 pub mod SoundFacts
