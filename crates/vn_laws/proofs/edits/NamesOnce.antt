@@ -28,6 +28,15 @@ has ifs i = list_any (if_eq i) ifs
 count-cons : (test : If → Bool) (i : If) (ifs : List If) → count_by test (i ∷ ifs) ≡ times (test i) + count_by test ifs
 count-cons test i ifs = sum_by-cons (λ k. cond (test k) 1 0) i ifs
 
+-- what is not there is counted no time
+none_counted : (i : If) (ifs : List If) → has ifs i ≡ false → count_by (if_eq i) ifs ≡ 0
+none_counted i [] none = refl
+none_counted i (k ∷ ifs) none = count-cons (if_eq i) k ifs ∙ by (if_eq i k) none (none_counted i ifs)
+  where
+    by : (b : Bool) → (b || has ifs i) ≡ false → (has ifs i ≡ false → count_by (if_eq i) ifs ≡ 0) → times b + count_by (if_eq i) ifs ≡ 0
+    by true e more = cc
+    by false e more = let n = more e in omega arith
+
 -- what is counted no time is not there
 none_there : (i : If) (ifs : List If) → count_by (if_eq i) ifs ≡ 0 → has ifs i ≡ false
 none_there i [] none = refl
@@ -90,13 +99,22 @@ module _ {w : World} (s : IsSound w) (p : Path) where
       by (OfHalf h) = once (stands_at p h.side (pair_at w (key_of h)))
 
   -- what is listed stands there
-  listed_stands : (h : Half) → has (ifs_of (stack_at w p)) (OfHalf h) ≡ true → stands_at p h.side (pair_at w (key_of h)) ≡ true
+  pub listed_stands : (h : Half) → has (ifs_of (stack_at w p)) (OfHalf h) ≡ true → stands_at p h.side (pair_at w (key_of h)) ≡ true
   listed_stands h there = by (stands_at p h.side (pair_at w (key_of h))) refl
     where
       by : (b : Bool) → stands_at p h.side (pair_at w (key_of h)) ≡ b → b ≡ true
       by true e = refl
       by false e =
           absurd (true≢false (sym there ∙ none_there (OfHalf h) (ifs_of (stack_at w p)) (s.standing.listed p (OfHalf h) ∙ ap times e)))
+
+  -- what is not listed does not
+  pub unlisted_stands : (h : Half) → has (ifs_of (stack_at w p)) (OfHalf h) ≡ false → stands_at p h.side (pair_at w (key_of h)) ≡ false
+  unlisted_stands h out =
+      by (stands_at p h.side (pair_at w (key_of h))) (sym (s.standing.listed p (OfHalf h)) ∙ none_counted (OfHalf h) (ifs_of (stack_at w p)) out)
+    where
+      by : (b : Bool) → times b ≡ 0 → b ≡ false
+      by true e = cc
+      by false e = refl
 
   pub name_once : (unit : ℕ) (side : Side) → count_by (has_name unit side) (ifs_of (stack_at w p)) ≤ 1
   name_once unit side = at_most_one unit side (ifs_of (stack_at w p)) few same
