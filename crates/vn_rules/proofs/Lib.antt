@@ -7,6 +7,8 @@ pub mod TimerLaws
 pub mod AddressLaws
 pub mod SceneLaws
 pub mod OrderLaws
+pub mod RouteEdits
+pub mod RouteChoice
 pub mod Constructed
 pub mod SoundRenamed
 pub mod ArpLaws

@@ -44,7 +44,7 @@ IsNotAfter-itself a = inr (refl, omega arith)
 -- ---- what holds of each element that a test keeps, where the list is read by recursion
 
 module _ {X : Type 0} (p : X → Bool) (P : X → Type 0) where
-  unfiltered : (xs : List X) → AllByRecursion P (filter p xs) → AllByRecursion (λ x. p x ≡ true → P x) xs
+  pub unfiltered : (xs : List X) → AllByRecursion P (filter p xs) → AllByRecursion (λ x. p x ≡ true → P x) xs
   unfiltered [] all = tt
   unfiltered (x ∷ xs) all = by (p x) refl all (unfiltered xs)
     where
@@ -52,7 +52,7 @@ module _ {X : Type 0} (p : X → Bool) (P : X → Type 0) where
       by true passes all more = (λ _. all.0, more all.1)
       by false fails all more = (λ passes. absurd (false≢true (sym fails ∙ passes)), more all)
 
-none_kept : {X : Type 0} (p : X → Bool) (xs : List X) → AllByRecursion (λ x. p x ≡ false) xs → filter p xs ≡ []
+pub none_kept : {X : Type 0} (p : X → Bool) (xs : List X) → AllByRecursion (λ x. p x ≡ false) xs → filter p xs ≡ []
 none_kept p [] none = refl
 none_kept p (x ∷ xs) none = rw none.0 (none_kept p xs none.1)
 
