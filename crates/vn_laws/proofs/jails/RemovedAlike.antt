@@ -8,7 +8,9 @@ use Rattle.std.proofs.lemmas.Bool.{and_parts, true≢false}
 use Rattle.vn_types.specs.declared.half.Half.{Half}
 use Rattle.vn_types.specs.PathOrder.{path_eq-Decides, key_ties}
 use Rattle.vn_types.proofs.PathNames.{key_eq-Decides, key_total}
+use Rattle.vn_types.specs.declared.errno.Errno.TheVariants as errno
 use Rattle.vn_rules.specs.Construction.{RowOf, DownOf, Clears, SendsHome, DestroysHomed}
+use Rattle.vn_rules.specs.Rules.{Common}
 use Rattle.vn_cells.specs.declared.cell.Cells.{Cells}
 use Rattle.vn_cells.specs.declared.world.Stack.{Stack}
 use Rattle.vn_cells.specs.declared.world.World.{World}
@@ -17,7 +19,7 @@ use Rattle.vn_cells.specs.world.World.{no_stack, pair_at, is_alive, ifs_of, live
 use Rattle.vn_cells.specs.commands.Jails.{recount, one_less, rows}
 use Rattle.vn_cells.specs.commands.Moves.{moved}
 use Rattle.vn_cells.specs.commands.Pairs.{destroyed_pair}
-use Rattle.vn_cells.specs.commands.Removal.{lent_here, homed_at, sent_home, without_pairs, run_down, torn_down, killed, destroyed, destroyed_all, living_under, removed}
+use Rattle.vn_cells.specs.commands.Removal.{lent_here, homed_at, sent_home, without_pairs, run_down, torn_down, killed, destroyed, destroyed_all, living_under, removed, removal}
 use Rattle.vn_cells.specs.keeping.Sound.{IsSound}
 use Rattle.vn_cells.specs.sets.Sets.{in_stacks, in_pairs}
 use Rattle.vn_laws.specs.Relations.{Alike, Belongs}
@@ -25,9 +27,10 @@ use Rattle.vn_laws.proofs.edits.Cells.{Ordered, OrderedPairs, none_lives, pair_l
 use Rattle.vn_laws.proofs.edits.Counts.{same_paths}
 use Rattle.vn_laws.proofs.edits.Lists.{same-filter}
 use Rattle.vn_laws.proofs.edits.Owned.{own_pair, list_all_filter}
-use Rattle.vn_laws.proofs.edits.Twins.{Twins, twins-edit_stack, twins-each_stack, twins-edit_live}
+use Rattle.vn_laws.proofs.edits.Twins.{Twins, twins-sound, twins-edit_stack, twins-each_stack, twins-edit_live}
 use Rattle.vn_laws.proofs.moves.Alike.{twins-moved}
 use Rattle.vn_laws.proofs.pairs.Alike.{twins-destroyed_pair}
+use Rattle.vn_laws.proofs.rule.Alike.{AlikeRules}
 
 -- ---- the same lists in both worlds
 
@@ -129,3 +132,12 @@ twins-removed {set} {v} {w} t b c sv sw clock p inside top =
     (twins-destroyed_all t clock (living_under v p)
     (list_all_filter (in_stacks set) (λ (q : Path). is_alive v q && is_under q p)
     (λ q e. let parts = and_parts _ _ e in b.descendants p q inside top parts.1 parts.0) (keys_of v.stacks)))
+
+pub removal_alike : {set : Cells} {v w : World} → Alike set v w → Belongs set v → Belongs set w → IsSound v → IsSound w
+    → (common : Common) (p : Path) → in_stacks set p ≡ true → is_host p ≡ false
+    → AlikeRules set (removal common p v) (removal common p w)
+removal_alike a b c sv sw common p inside top = record {
+  refusals = ap (λ (s : Stack). (not (is_some s.live), errno.NoEnt) ∷ []) (a.stacks p inside);
+  outcome = refl;
+  left = λ none. (twins-removed (twins-sound a sv sw) b c sv sw common.clock p inside top).alike;
+}
