@@ -1,15 +1,15 @@
 ghost use Rattle.std.specs.Prelude.{◌≡◌};
 ghost use Rattle.std.specs.List.{list_all};
-ghost use Rattle.vn_cells.specs.machine.Bounds.{is_ifname, is_ip, is_mac, is_network, is_octet, is_port, is_ttl, is_unit, is_value, is_wait};
+ghost use Rattle.vn_cells.specs.machine.Bounds.{is_ifname, is_ip, is_mac, is_octet, is_port, is_prefix, is_ttl, is_unit, is_value, is_wait};
 
-use vn_rules::network_of;
+use vn_rules::lies_in;
 use vn_types::{IfName, Ip4, Mac, Prefix};
 
-/// Whether a prefix is a network: whether no bit past its length is set.
-pub(crate) fn is_network(to: Prefix) -> bool
-    ensures { result ≡ is_network to }
+/// Whether a prefix is a network's: whether no bit past its length is set.
+pub(crate) fn is_prefix(to: Prefix) -> bool
+    ensures { result ≡ is_prefix to }
 {
-    is_ip(to.net) && to.len <= 32 && network_of(to.net, to.len).0 == to.net.0
+    is_ip(to.net) && to.len <= 32 && lies_in(to.net, to)
 }
 
 /// Whether a datagram may leave with this time to live.

@@ -1,5 +1,6 @@
 pub mod ListEdits
 pub mod ListTests
+pub mod Kept
 pub mod Renaming
 pub mod NetworkLaws
 pub mod TimerOrder
@@ -20,3 +21,10 @@ pub mod SocketSound
 pub mod SocketEdits
 pub mod SocketKept
 pub mod SocketQueues
+pub mod Named
+pub mod PingRemoval
+pub mod ArpRemoval
+pub mod SocketRemoval
+pub mod RouteRemoval
+pub mod AddressRemoval
+pub mod Purged

@@ -24,7 +24,7 @@ use Rattle.vn_rules.specs.Renamed.{as_addr, as_target, as_routed, as_arp, as_pin
 
 -- two ways round a square of functions
 module _ {A B C D : Type 0} (f : A → B) (p : A → C) (q : B → D) (h : C → D) (same : (x : A) → q (f x) ≡ h (p x)) where
-  map_square : (xs : List A) → map q (map f xs) ≡ map h (map p xs)
+  pub map_square : (xs : List A) → map q (map f xs) ≡ map h (map p xs)
   map_square xs = map-map q f xs ∙ (λ i. map (λ x. same x i) xs) ∙ sym (map-map h p xs)
 
 module _ {A B C : Type 0} (f : A → B) (g : B → C) (h : A → C) (same : (x : A) → g (f x) ≡ h x) where

@@ -8,7 +8,7 @@ use Rattle.vn_rules.specs.declared.parts.PartsOf.{PartsOf}
 use Rattle.vn_rules.specs.Interfaces.{queue_ifs, is_among}
 use Rattle.vn_rules.specs.Orders.{are_distinct, is_socket, are_sockets}
 use Rattle.vn_rules.specs.Ports.{are_in_conflict}
-use Rattle.vn_rules.specs.Soundness.{is_bound_locally, binds_locally, owns_timers, times_pings, times_arp, covers_arp, founds_routes, gave_arms, is_sound_parts}
+use Rattle.vn_rules.specs.Soundness.{is_bound_locally, binds_locally, sends_locally, owns_timers, times_pings, times_arp, covers_arp, founds_routes, gave_arms, is_sound_parts}
 use Rattle.vn_rules.proofs.ListTests.{all_weaker, all_map_kept, all_flat_map, distinct_map_same}
 use Rattle.vn_rules.proofs.SoundFacts.{are_own, facts_from_sound, sound_from_facts}
 
@@ -43,7 +43,7 @@ module _ {N : Type 0} (same : N → N → Bool) where
             and_from _ _ (and_from _ _ (and_from (a s) (b s) p.0 q.0) r.0) (three a b c xs p.1 q.1 r.1)
 
     pub sound_with_sockets : (sockets : List (SocketOf N)) → is_sound_parts same p ≡ true → AreRight p sockets → is_sound_parts same (record p { sockets = sockets }) ≡ true
-    unfolding binds_locally are_sockets owns_timers times_pings times_arp covers_arp founds_routes gave_arms
+    unfolding binds_locally sends_locally are_sockets owns_timers times_pings times_arp covers_arp founds_routes gave_arms
     sound_with_sockets sockets sound right =
         let f = facts_from_sound same (times_arp same) p sound in
         sound_from_facts same (times_arp same) (record p { sockets = sockets }) (record {
@@ -53,6 +53,7 @@ module _ {N : Type 0} (same : N → N → Bool) where
           ping_names = f.ping_names;
           gram_names = all_flat_map (is_among same p.interfaces) queue_ifs sockets ∙ all_weaker (is_right p) _ (λ s is. (and_parts _ (are_own same (times_arp same) p (queue_ifs s)) is).1) sockets right.each;
           bound = all_weaker (is_right p) _ (λ s is. (and_parts (is_socket s) _ (and_parts _ _ is).0).1) sockets right.each;
+          sources = f.sources;
           owned = f.owned;
           pings_timed = f.pings_timed;
           entries_apart = f.entries_apart;

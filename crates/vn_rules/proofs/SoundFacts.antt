@@ -13,7 +13,7 @@ use Rattle.vn_rules.specs.declared.parts.TheConstants.{LOOPBACK_MAX}
 use Rattle.vn_rules.specs.Interfaces.{queue_ifs, named_ifs, is_among}
 use Rattle.vn_rules.specs.Orders.{has_16_bits, are_addresses, are_routes, are_arp_entries, are_sockets, are_timers, are_pings, keeps_orders}
 use Rattle.vn_rules.specs.Routes.{Routed, target_if}
-use Rattle.vn_rules.specs.Soundness.{binds_locally, times_pings, gave_arms, has_distinct_arms, names_own, owns_timers, has_distinct_entries, covers_arp, founds_routes, keeps_timers, keeps_tables_by, is_sound_by}
+use Rattle.vn_rules.specs.Soundness.{binds_locally, sends_locally, times_pings, gave_arms, has_distinct_arms, names_own, owns_timers, has_distinct_entries, covers_arp, founds_routes, keeps_timers, keeps_tables_by, is_sound_by}
 use Rattle.vn_rules.specs.Variables.{declarations, are_declared}
 
 module _ {N : Type 0} (same : N → N → Bool) (times : PartsOf N → Bool) where
@@ -28,6 +28,7 @@ module _ {N : Type 0} (same : N → N → Bool) (times : PartsOf N → Bool) whe
     pub ping_names : are_own p (map (λ (g : PingOf N). g.out) p.pings.awaited) ≡ true
     pub gram_names : are_own p (flat_map queue_ifs p.sockets) ≡ true
     pub bound : binds_locally p ≡ true
+    pub sources : sends_locally p ≡ true
     pub owned : owns_timers same p ≡ true
     pub pings_timed : times_pings p ≡ true
     pub entries_apart : has_distinct_entries same p.arp ≡ true
@@ -59,7 +60,8 @@ module _ {N : Type 0} (same : N → N → Bool) (times : PartsOf N → Bool) whe
         let all = and_parts _ (keeps_orders p) sound in
         let three = and_parts _ (keeps_tables_by same times p) all.0 in
         let two = and_parts _ (keeps_timers same p) three.0 in
-        let one = and_parts (names_own same p) (binds_locally p) two.0 in
+        let half = and_parts _ (sends_locally p) two.0 in
+        let one = and_parts (names_own same p) (binds_locally p) half.0 in
         let n4 = split _ (flat_map queue_ifs p.sockets) one.0 in
         let n3 = split _ (map (λ (g : PingOf N). g.out) p.pings.awaited) n4.0 in
         let n2 = split _ (map (λ (e : ArpEntryOf N). Half e.half) p.arp) n3.0 in
@@ -85,6 +87,7 @@ module _ {N : Type 0} (same : N → N → Bool) (times : PartsOf N → Bool) whe
           ping_names = n3.1;
           gram_names = n4.1;
           bound = one.1;
+          sources = half.1;
           owned = t.0;
           pings_timed = t.1;
           entries_apart = b1.0;
@@ -107,9 +110,10 @@ module _ {N : Type 0} (same : N → N → Bool) (times : PartsOf N → Bool) whe
     pub sound_from_facts : SoundFacts p → is_sound_by same times p ≡ true
     unfolding names_own named_ifs keeps_orders
     sound_from_facts f =
-        both (both (both (both
+        both (both (both (both (both
         (joined _ _ (joined _ _ (joined _ _ (joined _ _ f.address_names f.route_names) f.arp_names) f.ping_names) f.gram_names)
         f.bound)
+        f.sources)
         (both f.owned f.pings_timed))
         (both (both (both (both (both f.entries_apart f.arp_timed) f.arp_covered) f.founded) f.arms_given) f.arms_apart))
         (both (both (both (both (both (both (both (both f.variables f.addresses) f.routes) f.arp) f.sockets) f.timers) f.pings) f.loopback) f.ident)

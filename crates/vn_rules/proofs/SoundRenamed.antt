@@ -21,14 +21,14 @@ use Rattle.vn_rules.specs.declared.socket.TheConstants.{RECEIVED_MAX}
 use Rattle.vn_rules.specs.declared.timer.TimerOf.TheVariants.{Arp, Ping}
 use Rattle.vn_rules.specs.declared.parts.PartsOf.{PartsOf}
 use Rattle.vn_rules.specs.Interfaces.{named_ifs, is_among}
-use Rattle.vn_rules.specs.Networks.{lies_in}
-use Rattle.vn_rules.specs.Orders.{are_rising, has_16_bits, is_network, is_right_in, are_addresses, are_routes, are_arp_entries, is_socket, are_sockets, are_timers, are_pings, keeps_orders}
+use Rattle.vn_rules.specs.Networks.{lies_in, is_network}
+use Rattle.vn_rules.specs.Orders.{are_rising, has_16_bits, is_right_in, are_addresses, are_routes, are_arp_entries, is_socket, are_sockets, are_timers, are_pings, keeps_orders}
 use Rattle.vn_rules.specs.Renamed.{as_addr, as_target, as_routed, as_arp, as_ping, as_pings, as_gram, as_socket, as_timer, as_timed, as_timers, renamed}
 use Rattle.vn_rules.specs.Routes.{Routed, prefix_cmp, is_link_on, covers}
-use Rattle.vn_rules.specs.Addresses.{is_address_of}
 use Rattle.vn_rules.specs.Arp.{is_timer_at}
 use Rattle.vn_rules.specs.Pings.{is_timer_for}
-use Rattle.vn_rules.specs.Soundness.{is_bound_locally, binds_locally, times_pings, gave_arms, has_distinct_arms, names_own, has_owner, owns_timers, timers_wanted, times_arp, has_distinct_entries, covers_arp, is_founded, founds_routes, keeps_timers, keeps_tables, is_sound_parts}
+use Rattle.vn_rules.specs.Addresses.{local, is_address_of}
+use Rattle.vn_rules.specs.Soundness.{is_bound_locally, binds_locally, sends_locally, times_pings, gave_arms, has_distinct_arms, names_own, has_owner, owns_timers, timers_wanted, times_arp, has_distinct_entries, covers_arp, is_founded, founds_routes, keeps_timers, keeps_tables, is_sound_parts}
 use Rattle.vn_rules.specs.Ports.{are_in_conflict}
 use Rattle.vn_rules.specs.Timers.{Timed, turn_cmp}
 use Rattle.vn_rules.proofs.AddressLaws.{local-renamed}
@@ -46,6 +46,11 @@ module _ {N M : Type 0} (r : N → M) where
       by : (ip : Option Ip4) → is_bound_locally (renamed r p) ip ≡ is_bound_locally p ip
       by None = refl
       by (Some ip) = local-renamed r ip p.addresses
+
+  sends_locally-renamed : (p : PartsOf N) → sends_locally (renamed r p) ≡ sends_locally p
+  unfolding sends_locally renamed
+  sends_locally-renamed p =
+      all_map_same (as_ping r) (λ (g : PingOf N). local g.src p.addresses) (λ (g : PingOf M). local g.src (renamed r p).addresses) (λ g. local-renamed r g.src p.addresses) p.pings.awaited
 
   is_timer_for-renamed : (ping : PingOf N) (e : Timed N) → is_timer_for (as_ping r ping) (as_timed r e) ≡ is_timer_for ping e
   is_timer_for-renamed ping (at, Arp half ip) = refl
@@ -177,4 +182,4 @@ module _ {N M : Type 0} (r : N → M) (at_n : N → N → Bool) (at_m : M → M 
 
   pub is_sound_parts-renamed : (p : PartsOf N) → is_sound_parts at_m (renamed r p) ≡ is_sound_parts at_n p
   is_sound_parts-renamed p =
-      rw (names_own-renamed p, binds_locally-renamed r p, keeps_timers-renamed p, keeps_tables-renamed p, keeps_orders-renamed r p) refl
+      rw (names_own-renamed p, binds_locally-renamed r p, sends_locally-renamed r p, keeps_timers-renamed p, keeps_tables-renamed p, keeps_orders-renamed r p) refl

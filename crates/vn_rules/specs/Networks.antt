@@ -1,5 +1,5 @@
 -- Networks of addresses.
-use Rattle.std.specs.Prelude.{ℕ, Bool, ◌==◌, ◌||◌, nat_lt, ◌+◌, ◌-◌, ◌*◌, ◌/◌, ◌^◌}
+use Rattle.std.specs.Prelude.{ℕ, Bool, ◌==◌, ◌&&◌, ◌||◌, nat_lt, nat_le, ◌+◌, ◌-◌, ◌*◌, ◌/◌, ◌^◌}
 use Rattle.vn_types.specs.declared.address.Ip4.{Ip4}
 use Rattle.vn_types.specs.declared.address.Prefix.{Prefix}
 
@@ -28,3 +28,7 @@ is_loopback ip = first_octet ip == 127
 -- whether the address lies in the network
 unfoldable pub lies_in : Ip4 → Prefix → Bool
 lies_in ip to = (network_of ip to.len).0 == to.net.0
+
+-- whether it is the prefix of a network: its length is at most 32, and no bit past it is set
+abbrev pub is_network : Prefix → Bool
+is_network to = nat_le to.len 32 && lies_in to.net to

@@ -5,7 +5,6 @@ use Rattle.std.specs.Str.{bytes_eq}
 use Rattle.std.specs.Ordering.{is_lt}
 use Rattle.std.specs.declared.cmp.Ordering.{Ordering}
 use Rattle.std.specs.Map.{keys_of}
-use Rattle.vn_types.specs.declared.address.Prefix.{Prefix}
 use Rattle.vn_rules.specs.declared.address.AddrOf.{AddrOf}
 use Rattle.vn_rules.specs.declared.arp.ArpEntryOf.{ArpEntryOf}
 use Rattle.vn_rules.specs.declared.arp.ArpState.{ArpState}
@@ -19,7 +18,7 @@ use Rattle.vn_rules.specs.declared.timer.TimersOf.{TimersOf}
 use Rattle.vn_rules.specs.declared.parts.PartsOf.{PartsOf}
 use Rattle.vn_rules.specs.declared.parts.TheConstants.{LOOPBACK_MAX}
 use Rattle.vn_rules.specs.Addresses.{has_ip}
-use Rattle.vn_rules.specs.Networks.{lies_in}
+use Rattle.vn_rules.specs.Networks.{is_network}
 use Rattle.vn_rules.specs.Routes.{Routed, prefix_cmp}
 use Rattle.vn_rules.specs.Ports.{are_in_conflict}
 use Rattle.vn_rules.specs.Timers.{Timed, turn_cmp}
@@ -38,10 +37,6 @@ are_distinct same (x ∷ xs) = not (list_any (same x) xs) && are_distinct same x
 -- whether a number has 16 bits
 abbrev pub has_16_bits : ℕ → Bool
 has_16_bits n = nat_lt n (2 ^ 16)
-
--- whether it is the prefix of a network: its length is at most 32, and no bit past it is set
-abbrev pub is_network : Prefix → Bool
-is_network to = nat_le to.len 32 && lies_in to.net to
 
 -- whether an entry has a hardware address, counts requests and holds datagrams as its state tells
 abbrev pub is_right_in : {N : Type 0} → ArpState → ArpEntryOf N → Bool

@@ -29,6 +29,11 @@ module _ {N : Type 0} where
   unfoldable pub binds_locally : PartsOf N → Bool
   binds_locally p = list_all (λ (s : SocketOf N). is_bound_locally p s.ip) p.sockets
 
+  -- each awaited ping was sent from an address of the stack
+  unfoldable pub sends_locally : PartsOf N → Bool
+  sends_locally p =
+      list_all (λ (ping : PingOf N). local ping.src p.addresses) p.pings.awaited
+
   -- each awaited ping has its timer, and one alone
   unfoldable pub times_pings : PartsOf N → Bool
   times_pings p =
@@ -122,7 +127,8 @@ module _ {N : Type 0} (same : N → N → Bool) where
   -- ARP entries
   abbrev pub is_sound_by : (PartsOf N → Bool) → PartsOf N → Bool
   is_sound_by times p =
-      names_own p && binds_locally p && keeps_timers p && keeps_tables_by times p && keeps_orders p
+      names_own p && binds_locally p && sends_locally p && keeps_timers p && keeps_tables_by times p
+      && keeps_orders p
 
   -- where each has its own
   abbrev pub is_sound_parts : PartsOf N → Bool

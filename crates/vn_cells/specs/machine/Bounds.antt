@@ -7,7 +7,7 @@ use Rattle.vn_types.specs.declared.address.Prefix.{Prefix}
 use Rattle.vn_types.specs.declared.half.Half.{Half}
 use Rattle.vn_types.specs.declared.interface.IfName.{IfName}
 use Rattle.vn_types.specs.declared.interface.IfName.TheVariants as ifname
-use Rattle.vn_rules.specs.Networks.{network_of}
+use Rattle.vn_rules.specs.Networks.{is_network}
 use Rattle.vn_cells.specs.world.Names.{is_path}
 
 -- an octet
@@ -51,9 +51,9 @@ is_ifname (ifname.Epair unit side) = is_unit unit
 abbrev pub is_half : Half → Bool
 is_half half = is_path half.home && is_unit half.unit
 
--- a network: no bit past its length is set
-abbrev pub is_network : Prefix → Bool
-is_network to = is_ip to.net && nat_le to.len 32 && ((network_of to.net to.len).0 == to.net.0)
+-- the prefix of a network, by an address
+abbrev pub is_prefix : Prefix → Bool
+is_prefix to = is_ip to.net && is_network to
 
 -- a test of what may be left out
 abbrev pub passes : {T : Type 0} → (T → Bool) → Option T → Bool

@@ -15,7 +15,7 @@ use Rattle.vn_cells.specs.declared.script.Line.TheVariants as line
 use Rattle.vn_cells.specs.declared.script.Part.{Part}
 use Rattle.vn_cells.specs.declared.script.Part.TheVariants as part
 use Rattle.vn_cells.specs.declared.script.Script.{Script}
-use Rattle.vn_cells.specs.machine.Bounds.{is_octet, is_unit, is_port, is_value, is_ttl, is_wait, is_ip, is_mac, is_ifname, is_half, is_network, passes}
+use Rattle.vn_cells.specs.machine.Bounds.{is_octet, is_unit, is_port, is_value, is_ttl, is_wait, is_ip, is_mac, is_ifname, is_half, is_prefix, passes}
 use Rattle.vn_cells.specs.world.Names.{Path, is_host, is_path}
 
 -- lanes are numbered from 1 to 8
@@ -51,8 +51,8 @@ is_valid_command issuer (command.InetRemove name ip) = is_ifname name && is_ip i
 is_valid_command issuer (command.Up name) = is_ifname name
 is_valid_command issuer (command.Down name) = is_ifname name
 is_valid_command issuer (command.Ether name mac) = is_ifname name && is_mac mac
-is_valid_command issuer (command.RouteAdd to via) = is_network to && is_ip via
-is_valid_command issuer (command.RouteDelete to) = is_network to
+is_valid_command issuer (command.RouteAdd to via) = is_prefix to && is_ip via
+is_valid_command issuer (command.RouteDelete to) = is_prefix to
 is_valid_command issuer (command.ArpSet ip mac) = is_ip ip && is_mac mac
 is_valid_command issuer (command.ArpDelete ip) = is_ip ip
 is_valid_command issuer (command.SysctlGet name) = is_name name

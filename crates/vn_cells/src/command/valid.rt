@@ -5,7 +5,7 @@ ghost use Rattle.vn_cells.specs.machine.Events.{is_built_command, is_endpoint, i
 ghost use Rattle.vn_cells.specs.world.Names.{is_path};
 
 use crate::bounds::{
-    is_ifname, is_ip, is_mac, is_network, is_octets, is_port, is_ttl, is_unit, is_value,
+    is_ifname, is_ip, is_mac, is_octets, is_port, is_prefix, is_ttl, is_unit, is_value,
 };
 use crate::command::{Command, Payload};
 use vn_types::{Ip4, Name, Path, SockName};
@@ -62,8 +62,8 @@ impl Command {
             Command::Inet { name, ip, len } => is_ifname(*name) && is_ip(*ip) && *len <= 32,
             Command::InetRemove { name, ip } => is_ifname(*name) && is_ip(*ip),
             Command::Ether { name, mac } => is_ifname(*name) && is_mac(*mac),
-            Command::RouteAdd { to, via } => is_network(*to) && is_ip(*via),
-            Command::RouteDelete { to } => is_network(*to),
+            Command::RouteAdd { to, via } => is_prefix(*to) && is_ip(*via),
+            Command::RouteDelete { to } => is_prefix(*to),
             Command::ArpSet { ip, mac } => is_ip(*ip) && is_mac(*mac),
             Command::ArpDelete { ip } => is_ip(*ip),
             Command::SysctlGet { name } => is_name(name),

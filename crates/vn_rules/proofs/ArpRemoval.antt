@@ -1,0 +1,153 @@
+-- ARP entries go with their timers: nothing new is named, the parts stay sound, and renaming goes through.
+use Rattle.std.proofs.Common.{◌≡◌, ℕ, Bool, true, false, not, ◌==◌, List, refl, sym, ap, ◌∙◌}
+use Rattle.std.specs.List.{list_all, count_by, filter}
+use Rattle.std.specs.Bool.{Decides}
+use Rattle.std.specs.Map.{keys_of}
+use Rattle.std.proofs.lemmas.Bool.{and_parts, and_from, both_ways, not-true, not-false, false_from_ne_true, false≢true, eqb-true}
+use Rattle.vn_types.specs.declared.address.Ip4.{Ip4}
+use Rattle.vn_types.specs.declared.interface.IfOf.{IfOf}
+use Rattle.vn_types.specs.declared.interface.IfOf.TheVariants.{Half}
+use Rattle.vn_types.proofs.ListMaps.{filter_map_same}
+use Rattle.vn_rules.specs.declared.arp.ArpEntryOf.{ArpEntryOf}
+use Rattle.vn_rules.specs.declared.ping.PingOf.{PingOf}
+use Rattle.vn_rules.specs.declared.timer.TimerOf.{TimerOf}
+use Rattle.vn_rules.specs.declared.timer.TimerOf.TheVariants.{Arp, Ping}
+use Rattle.vn_rules.specs.declared.parts.PartsOf.{PartsOf}
+use Rattle.vn_rules.specs.Arp.{is_timer_at, is_timer_where, without_entries}
+use Rattle.vn_rules.specs.Orders.{are_arp_entries, are_timers, are_rising}
+use Rattle.vn_rules.specs.Pings.{is_timer_for}
+use Rattle.vn_rules.specs.Renamed.{as_arp, as_timer, as_timed, renamed}
+use Rattle.vn_rules.specs.Soundness.{is_sound_parts, binds_locally, sends_locally, founds_routes, has_owner, owns_timers, times_pings, times_arp, timers_wanted, gave_arms, has_distinct_entries, covers_arp}
+use Rattle.vn_rules.specs.Timers.{Timed, turn_cmp}
+use Rattle.vn_rules.proofs.Kept.{all_filtered, all_passed, any_filter, count_filter, rising_kept}
+use Rattle.vn_rules.specs.Interfaces.{is_among}
+use Rattle.vn_rules.proofs.ListTests.{all_filter, all_weaker, distinct_filter}
+use Rattle.vn_rules.proofs.Named.{NamesPass, own_names, of_addresses, of_routes, of_arp, of_pings, of_grams}
+use Rattle.vn_rules.proofs.SoundFacts.{SoundFacts, facts_from_sound, sound_from_facts}
+
+module _ {N : Type 0} (gone : N → Ip4 → Bool) (p : PartsOf N) where
+  abbrev stays : ArpEntryOf N → Bool
+  stays e = not (gone e.half e.ip)
+
+  abbrev timer_stays : Timed N → Bool
+  timer_stays e = not (is_timer_where gone e.1)
+
+  pub without_entries-names : (t : IfOf N → Bool) → NamesPass t p → NamesPass t (without_entries gone p)
+  unfolding without_entries
+  without_entries-names t pass = record {
+    addresses = pass.addresses;
+    routes = pass.routes;
+    arp = all_filter stays (λ (e : ArpEntryOf N). t (Half e.half)) p.arp pass.arp;
+    pings = pass.pings;
+    grams = pass.grams;
+  }
+
+  -- none of them is left, and none of their timers
+  pub without_entries-passed : list_all stays (without_entries gone p).arp ≡ true
+  unfolding without_entries
+  without_entries-passed = all_passed stays p.arp
+
+  pub without_entries-stopped : list_all timer_stays (without_entries gone p).timers.standing ≡ true
+  unfolding without_entries
+  without_entries-stopped = all_passed timer_stays p.timers.standing
+
+module _ {N : Type 0} (same : N → N → Bool) (decides : (a b : N) → Decides (same a b) (a ≡ b)) (gone : N → Ip4 → Bool) (p : PartsOf N) (s : SoundFacts same (times_arp same) p) where
+  abbrev timers_of : List (Timed N)
+  timers_of = p.timers.standing
+
+  -- a timer is gone with its entry
+  at_one : (e : ArpEntryOf N) (at : ℕ × ℕ) (half : N) (ip : Ip4) → is_timer_at same e (at, Arp half ip) ≡ true → gone half ip ≡ gone e.half e.ip
+  at_one e at half ip f =
+      let parts = and_parts (same half e.half) (ip.0 == e.ip.0) f in
+      let there : half ≡ e.half = (decides half e.half).0 parts.0 in
+      let number : ip.0 ≡ e.ip.0 = eqb-true ip.0 e.ip.0 parts.1 in
+      λ i. gone (there i) (record { 0 = number i })
+
+  owned : owns_timers same (without_entries gone p) ≡ true
+  unfolding owns_timers without_entries
+  owned = all_filtered (has_owner same p) (has_owner same (without_entries gone p)) (timer_stays gone p) timers_of by s.owned
+    where
+      by : (e : Timed N) → timer_stays gone p e ≡ true → has_owner same p e ≡ true → has_owner same (without_entries gone p) e ≡ true
+      by (at, Ping id arm) kept owner = owner
+      by (at, Arp half ip) kept owner = any_filter (λ a. is_timer_at same a (at, Arp half ip)) (stays gone p) p.arp left ∙ owner
+        where
+          left : (a : ArpEntryOf N) → stays gone p a ≡ false → is_timer_at same a (at, Arp half ip) ≡ false
+          left a goes = false_from_ne_true _ (λ f. both_ways (gone half ip) (not-true _ kept) (at_one a at half ip f ∙ not-false _ goes))
+
+  pings_timed : times_pings (without_entries gone p) ≡ true
+  unfolding times_pings without_entries
+  pings_timed = all_weaker (λ g. count_by (is_timer_for g) timers_of == 1) (λ g. count_by (is_timer_for g) (filter (timer_stays gone p) timers_of) == 1) by p.pings.awaited s.pings_timed
+    where
+      untimed : (g : PingOf N) (e : Timed N) → timer_stays gone p e ≡ false → is_timer_for g e ≡ false
+      untimed g (at, Arp half ip) goes = refl
+      untimed g (at, Ping id arm) goes = absurd (false≢true (sym goes))
+
+      by : (g : PingOf N) → (count_by (is_timer_for g) timers_of == 1) ≡ true → (count_by (is_timer_for g) (filter (timer_stays gone p) timers_of) == 1) ≡ true
+      by g alone = ap (λ n. n == 1) (count_filter (is_timer_for g) (timer_stays gone p) timers_of (λ e _. untimed g e)) ∙ alone
+
+  arp_timed : times_arp same (without_entries gone p) ≡ true
+  unfolding times_arp without_entries
+  arp_timed = all_filtered (λ a. count_by (is_timer_at same a) timers_of == timers_wanted same a.state) (λ a. count_by (is_timer_at same a) (filter (timer_stays gone p) timers_of) == timers_wanted same a.state) (stays gone p) p.arp by s.arp_timed
+    where
+      untimed : (a : ArpEntryOf N) → stays gone p a ≡ true → (e : Timed N) → timer_stays gone p e ≡ false → is_timer_at same a e ≡ false
+      untimed a kept (at, Ping id arm) goes = refl
+      untimed a kept (at, Arp half ip) goes = false_from_ne_true _ (λ f. both_ways (gone a.half a.ip) (not-true _ kept) (sym (at_one a at half ip f) ∙ not-false _ goes))
+
+      by : (a : ArpEntryOf N) → stays gone p a ≡ true → (count_by (is_timer_at same a) timers_of == timers_wanted same a.state) ≡ true
+          → (count_by (is_timer_at same a) (filter (timer_stays gone p) timers_of) == timers_wanted same a.state) ≡ true
+      by a kept right = ap (λ n. n == timers_wanted same a.state) (count_filter (is_timer_at same a) (timer_stays gone p) timers_of (λ e _. untimed a kept e)) ∙ right
+
+  abbrev own : IfOf N → Bool
+  own = is_among same p.interfaces
+
+  named : NamesPass own (without_entries gone p)
+  named = without_entries-names gone p own (own_names same (times_arp same) p s)
+
+  without_entries-facts : SoundFacts same (times_arp same) (without_entries gone p)
+  unfolding without_entries binds_locally sends_locally founds_routes gave_arms has_distinct_entries covers_arp are_arp_entries are_timers
+  without_entries-facts = record {
+    address_names = of_addresses own (without_entries gone p) named;
+    route_names = of_routes own (without_entries gone p) named;
+    arp_names = of_arp own (without_entries gone p) named;
+    ping_names = of_pings own (without_entries gone p) named;
+    gram_names = of_grams own (without_entries gone p) named;
+    bound = s.bound;
+    sources = s.sources;
+    owned = owned;
+    pings_timed = pings_timed;
+    entries_apart = distinct_filter (stays gone p) _ p.arp s.entries_apart;
+    arp_timed = arp_timed;
+    arp_covered = all_filter (stays gone p) _ p.arp s.arp_covered;
+    founded = s.founded;
+    arms_given = all_filter (timer_stays gone p) _ timers_of s.arms_given;
+    arms_apart = s.arms_apart;
+    variables = s.variables;
+    addresses = s.addresses;
+    routes = s.routes;
+    arp = all_filter (stays gone p) _ p.arp s.arp;
+    sockets = s.sockets;
+    timers = let t = and_parts (are_rising turn_cmp (keys_of timers_of)) _ s.timers in and_from _ _ (rising_kept turn_cmp (timer_stays gone p) timers_of t.0) (distinct_filter (timer_stays gone p) _ timers_of t.1);
+    pings = s.pings;
+    loopback = s.loopback;
+    ident = s.ident;
+  }
+
+pub without_entries-sound : {N : Type 0} (same : N → N → Bool) (decides : (a b : N) → Decides (same a b) (a ≡ b)) (gone : N → Ip4 → Bool) (p : PartsOf N) → is_sound_parts same p ≡ true → is_sound_parts same (without_entries gone p) ≡ true
+without_entries-sound same decides gone p sound = sound_from_facts same (times_arp same) (without_entries gone p) (without_entries-facts same decides gone p (facts_from_sound same (times_arp same) p sound))
+
+-- ---- under other names of halves
+
+module _ {N M : Type 0} (r : N → M) (gone_n : N → Ip4 → Bool) (gone_m : M → Ip4 → Bool) (agree : (h : N) (ip : Ip4) → gone_m (r h) ip ≡ gone_n h ip) where
+  is_timer_where-renamed : (t : TimerOf N) → is_timer_where gone_m (as_timer r t) ≡ is_timer_where gone_n t
+  is_timer_where-renamed (Arp half ip) = agree half ip
+  is_timer_where-renamed (Ping id arm) = refl
+
+  pub without_entries-renamed : (p : PartsOf N) → without_entries gone_m (renamed r p) ≡ renamed r (without_entries gone_n p)
+  unfolding without_entries renamed
+  without_entries-renamed p i = record (renamed r p) {
+    arp = filter_map_same (as_arp r) (λ e. not (gone_n e.half e.ip)) (λ e. not (gone_m e.half e.ip)) (λ e. ap not (agree e.half e.ip)) p.arp i;
+    timers = record {
+      armed = p.timers.armed;
+      standing = filter_map_same (as_timed r) (λ e. not (is_timer_where gone_n e.1)) (λ e. not (is_timer_where gone_m e.1)) (λ e. ap not (is_timer_where-renamed e.1)) p.timers.standing i;
+    };
+  }
