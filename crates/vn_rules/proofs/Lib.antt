@@ -28,3 +28,4 @@ pub mod SocketRemoval
 pub mod RouteRemoval
 pub mod AddressRemoval
 pub mod Purged
+pub mod InterfaceLaws

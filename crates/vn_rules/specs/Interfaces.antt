@@ -1,8 +1,8 @@
--- The interfaces that a stack's parts name.
-use Rattle.std.specs.Prelude.{Bool, false, List, ◌++◌, map}
-use Rattle.std.specs.List.{list_any, flat_map}
+-- The interfaces of a stack, in order of attachment, and those that its parts name.
+use Rattle.std.specs.Prelude.{Bool, false, not, List, [], ◌∷◌, ◌++◌, map, Option, Some, None}
+use Rattle.std.specs.List.{list_any, filter, filter_map, flat_map}
 use Rattle.vn_types.specs.declared.interface.IfOf.{IfOf}
-use Rattle.vn_types.specs.declared.interface.IfOf.TheVariants.{Half}
+use Rattle.vn_types.specs.declared.interface.IfOf.TheVariants.{Lo0, Half}
 use Rattle.vn_types.specs.Interfaces.{if_same}
 use Rattle.vn_rules.specs.declared.address.AddrOf.{AddrOf}
 use Rattle.vn_rules.specs.declared.arp.ArpEntryOf.{ArpEntryOf}
@@ -28,7 +28,33 @@ module _ {N : Type 0} where
       ++ map (λ (g : PingOf N). g.out) p.pings.awaited
       ++ flat_map queue_ifs p.sockets
 
+  -- the half that an interface is
+  abbrev pub if_half : IfOf N → Option N
+  if_half Lo0 = None
+  if_half (Half h) = Some h
+
+  -- the half of the ARP entry that a timer is for
+  abbrev pub timer_half : TimerOf N → Option N
+  timer_half (Arp half ip) = Some half
+  timer_half (Ping id arm) = None
+
+  -- each half that stands in a stack, that its parts name or that a timer is for
+  unfoldable pub halves_in : PartsOf N → List N
+  halves_in p =
+      filter_map if_half p.interfaces ++ filter_map if_half (named_ifs p)
+      ++ filter_map (λ e. timer_half e.1) p.timers.standing
+
+  -- ---- interfaces that come
+
+  -- the interface is attached, last
+  abbrev pub with_interface : IfOf N → List (IfOf N) → List (IfOf N)
+  with_interface on ifs = ifs ++ on ∷ []
+
 module _ {N : Type 0} (same : N → N → Bool) where
+  -- and that go: the interface is none of them
+  abbrev pub without_interface : IfOf N → List (IfOf N) → List (IfOf N)
+  without_interface on ifs = filter (λ own. not (if_same same own on)) ifs
+
   -- whether the interface is one of these
   abbrev pub is_among : List (IfOf N) → IfOf N → Bool
   is_among ifs on = list_any (if_same same on) ifs

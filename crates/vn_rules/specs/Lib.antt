@@ -17,6 +17,7 @@ pub mod Soundness
 pub mod Rules
 pub mod Errors
 pub mod Purge
+pub mod AddressCommands
 pub mod Scenes
 pub mod Named
 pub mod LinkCommands
