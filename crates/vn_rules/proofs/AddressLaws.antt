@@ -49,7 +49,7 @@ module _ {N M : Type 0} (r : N → M) where
   ip_of-renamed (Some a) = refl
 
 module _ {N M : Type 0} (r : N → M) (at_n : N → N → Bool) (at_m : M → M → Bool) (faithful : (a b : N) → at_m (r a) (r b) ≡ at_n a b) where
-  is_on-renamed : (on : IfOf N) (a : AddrOf N) → if_same at_m (as_if r a.on) (as_if r on) ≡ if_same at_n a.on on
+  pub is_on-renamed : (on : IfOf N) (a : AddrOf N) → if_same at_m (as_if r a.on) (as_if r on) ≡ if_same at_n a.on on
   is_on-renamed on a = if_same-as_if r at_n at_m faithful a.on on
 
   is_at-renamed : (on : IfOf N) (ip : Ip4) (a : AddrOf N) → is_at at_m (as_if r on) ip (as_addr r a) ≡ is_at at_n on ip a
@@ -61,7 +61,7 @@ module _ {N M : Type 0} (r : N → M) (at_n : N → N → Bool) (at_m : M → M 
   pub address_of-renamed : (on : IfOf N) (ip : Ip4) (xs : List (AddrOf N)) → address_of at_m (as_if r on) ip (map (as_addr r) xs) ≡ option_map (as_addr r) (address_of at_n on ip xs)
   address_of-renamed on ip xs = find_map_same (as_addr r) (is_at at_n on ip) (is_at at_m (as_if r on) ip) (is_at-renamed on ip) xs
 
-  without_address-renamed : (o : Option (AddrOf N)) (xs : List (AddrOf N)) → without_address at_m (option_map (as_addr r) o) (map (as_addr r) xs) ≡ map (as_addr r) (without_address at_n o xs)
+  pub without_address-renamed : (o : Option (AddrOf N)) (xs : List (AddrOf N)) → without_address at_m (option_map (as_addr r) o) (map (as_addr r) xs) ≡ map (as_addr r) (without_address at_n o xs)
   without_address-renamed None xs = refl
   without_address-renamed (Some a) xs =
       filter_map_same (as_addr r) (λ b. not (is_same at_n a b)) (λ b. not (is_same at_m (as_addr r a) b)) (λ b. ap (λ here. not (here && (b.len == a.len))) (is_at-renamed a.on a.ip b)) xs

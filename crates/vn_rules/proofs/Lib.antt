@@ -29,3 +29,4 @@ pub mod RouteRemoval
 pub mod AddressRemoval
 pub mod Purged
 pub mod InterfaceLaws
+pub mod PurgeRenamed

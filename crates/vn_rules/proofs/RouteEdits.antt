@@ -10,7 +10,8 @@ use Rattle.std.proofs.lemmas.Bool.{and_parts, and_from}
 use Rattle.vn_types.specs.declared.address.Prefix.{Prefix}
 use Rattle.vn_types.proofs.EntryLaws.{IsStrictlySortedBy-insert_entry}
 use Rattle.vn_rules.specs.declared.route.TargetOf.{TargetOf}
-use Rattle.vn_rules.specs.Orders.{are_rising, is_network, are_routes}
+use Rattle.vn_rules.specs.Networks.{is_network}
+use Rattle.vn_rules.specs.Orders.{are_rising, are_routes}
 use Rattle.vn_rules.specs.Routes.{Routed, prefix_cmp}
 use Rattle.vn_rules.proofs.OrderLaws.{prefix_cmp_total, IsStrictlySortedBy-from_rising, rising_from_sorted}
 
