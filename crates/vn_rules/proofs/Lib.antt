@@ -16,6 +16,8 @@ pub mod ArpLaws
 pub mod ResolutionLaws
 pub mod PortLaws
 pub mod SocketLaws
+pub mod TimerEdits
+pub mod ArpPlaces
 pub mod SoundFacts
 pub mod SocketSound
 pub mod SocketEdits
