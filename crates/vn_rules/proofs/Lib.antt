@@ -19,6 +19,10 @@ pub mod SocketLaws
 pub mod TimerEdits
 pub mod ArpPlaces
 pub mod SoundFacts
+pub mod ArpFacts
+pub mod ArpTimed
+pub mod ArpKept
+pub mod ArpRemoved
 pub mod SocketSound
 pub mod SocketEdits
 pub mod SocketKept
