@@ -1,10 +1,9 @@
 -- What a sound stack tells of the entry and the timer of an address on a half, and what keeps it sound there.
-use Rattle.std.proofs.Common.{◌≡◌, ℕ, ◌+◌, Bool, true, false, cond, ◌||◌, ◌==◌, List, [], ◌∷◌, Option, Some, None, refl, sym, ap, ◌∙◌, arith}
+use Rattle.std.proofs.Common.{◌≡◌, Bool, true, false, cond, ◌==◌, Option, Some, None, refl, sym, ap, ◌∙◌}
 use Rattle.std.specs.Bool.{Decides}
-use Rattle.std.specs.List.{list_any, list_all, count_by}
-use Rattle.std.proofs.lemmas.Bool.{and_parts, or_from, both_ways, false_from_ne_true, eqb-true}
+use Rattle.std.specs.List.{list_any, count_by}
+use Rattle.std.proofs.lemmas.Bool.{both_ways, false_from_ne_true, eqb-true}
 use Rattle.std.proofs.lemmas.List.Folds.{list_all-map}
-use Rattle.std.proofs.lemmas.List.Sums.{sum_by-cons}
 use Rattle.vn_types.specs.declared.address.Ip4.{Ip4}
 use Rattle.vn_types.specs.declared.interface.IfOf.TheVariants.{Half}
 use Rattle.vn_rules.specs.declared.arp.ArpEntryOf.{ArpEntryOf}
@@ -18,23 +17,9 @@ use Rattle.vn_rules.specs.Routes.{covers}
 use Rattle.vn_rules.specs.Soundness.{sends_locally, binds_locally, times_pings, gave_arms, has_owner, owns_timers, timers_wanted, times_arp, times_arp_but, covers_arp, founds_routes, is_sound_parts, is_sound_but}
 use Rattle.vn_rules.specs.Timers.{Turn, Timed}
 use Rattle.vn_rules.proofs.ArpPlaces.{AtPlace, place_from_test, test_from_place, put, all_put, any_put, distinct_put}
-use Rattle.vn_rules.proofs.ListTests.{none_weaker, find_passes, find_all}
+use Rattle.vn_rules.proofs.ListTests.{absent-none, none_weaker, find_passes, find_all}
+use Rattle.vn_rules.proofs.TimerEdits.{zero_from_all}
 use Rattle.vn_rules.proofs.SoundFacts.{SoundFacts, facts_from_sound, sound_from_facts}
-
--- nothing passes where all pass a test that rules it out
-pub none_from_all : {A : Type 0} (p q : A → Bool) → ((x : A) → p x ≡ true → q x ≡ false) → (xs : List A) → list_all p xs ≡ true → list_any q xs ≡ false
-none_from_all p q out [] all = refl
-none_from_all p q out (x ∷ xs) all = let parts = and_parts (p x) _ all in or_from _ _ (out x parts.0) (none_from_all p q out xs parts.1)
-
-pub zero_from_all : {A : Type 0} (p q : A → Bool) → ((x : A) → p x ≡ true → q x ≡ false) → (xs : List A) → list_all p xs ≡ true → count_by q xs ≡ 0
-zero_from_all p q out [] all = refl
-zero_from_all p q out (x ∷ xs) all =
-    let parts = and_parts (p x) _ all in
-    let fails : q x ≡ false = out x parts.0 in
-    let here : cond {A = ℕ} (q x) 1 0 ≡ 0 = rw fails refl in
-    let rest : count_by q xs ≡ 0 = zero_from_all p q out xs parts.1 in
-    let whole : count_by q (x ∷ xs) ≡ cond {A = ℕ} (q x) 1 0 + count_by q xs = sum_by-cons (λ z. cond (q z) 1 0) x xs in
-    omega arith
 
 module _ {N : Type 0} (same : N → N → Bool) (decides : (g h : N) → Decides (same g h) (g ≡ h)) (half : N) (ip : Ip4) where
   -- whether it is a timer of that place
@@ -97,16 +82,8 @@ module _ {N : Type 0} (same : N → N → Bool) (decides : (g h : N) → Decides
         f : SoundFacts same (times_arp_but same half ip) p
         f = facts_from_sound same (times_arp_but same half ip) p sound
 
-        absent : (es : List (ArpEntryOf N)) → entry_of same half ip es ≡ None → list_any (is_entry_at same half ip) es ≡ false
-        absent [] is = refl
-        absent (d ∷ es) is = at (is_entry_at same half ip d) is (absent es)
-          where
-            at : (b : Bool) → cond b (Some d) (entry_of same half ip es) ≡ None → (entry_of same half ip es ≡ None → list_any (is_entry_at same half ip) es ≡ false) → (b || list_any (is_entry_at same half ip) es) ≡ false
-            at true is more = absurd (cc)
-            at false is more = more is
-
         by : (o : Option (ArpEntryOf N)) → entry_of same half ip p.arp ≡ o → count_by at_place p.timers.standing ≡ 0
-        by None is = no_timer-absent (absent p.arp is) f.owned
+        by None is = no_timer-absent (absent-none (is_entry_at same half ip) p.arp is) f.owned
         by (Some e) is =
             let there = find_passes (is_entry_at same half ip) p.arp e is in
             let none : count_by (is_timer_at same e) p.timers.standing ≡ 0 = eqb-true _ _ (sym (ap (λ b. count_by (is_timer_at same e) p.timers.standing == cond b 0 (timers_wanted same e.state)) there) ∙ find_all (is_entry_at same half ip) has_but p.arp e is f.arp_timed) in

@@ -2,7 +2,7 @@
 use Rattle.std.proofs.Common.{◌≡◌, ℕ, ◌+◌, ◌-◌, Bool, true, false, cond, ◌&&◌, ◌||◌, List, [], ◌∷◌, ◌++◌, drop, length, Option, Some, None, refl, sym, ap, ◌∙◌, arith}
 use Rattle.std.specs.Bool.{Decides}
 use Rattle.std.specs.Prelude.{nat_lt, nat_le, is_some, is_none, unwrap_or}
-use Rattle.std.specs.List.{list_any, find}
+use Rattle.std.specs.List.{list_any}
 use Rattle.std.specs.Option.{option_map_or, option_and_then}
 use Rattle.std.proofs.lemmas.Bool.{both_ways, and_parts, and_from, le-leb}
 use Rattle.std.proofs.lemmas.List.{length-drop}
@@ -25,20 +25,12 @@ use Rattle.vn_rules.specs.Timers.{after_arm}
 use Rattle.vn_rules.proofs.ArpFacts.{has_but, has_own, own-apart}
 use Rattle.vn_rules.proofs.ArpPlaces.{base, base-place, with_entry-put}
 use Rattle.vn_rules.proofs.ArpTimed.{all_apart, untimed-sound, timed-sound, untimed_put-sound, kept_put-sound}
-use Rattle.vn_rules.proofs.ListTests.{find_all}
+use Rattle.vn_rules.proofs.ListTests.{absent-none, find_all}
 use Rattle.vn_rules.proofs.SoundFacts.{SoundFacts, facts_from_sound, sound_from_facts}
 
 -- the newest of a list are as many as asked for, or fewer
 pub newest-length : {X : Type 0} (n : ℕ) (xs : List X) → nat_le (length (newest n xs)) n ≡ true
 newest-length n xs = let rest : length (drop (length xs - n) xs) ≡ length xs - (length xs - n) = length-drop (length xs - n) xs in le-leb (length (newest n xs)) n (omega arith)
-
-pub absent-none : {A : Type 0} (p : A → Bool) (xs : List A) → find p xs ≡ None → list_any p xs ≡ false
-absent-none p [] is = refl
-absent-none p (x ∷ xs) is = at (p x) is (absent-none p xs)
-  where
-    at : (b : Bool) → cond b (Some x) (find p xs) ≡ None → (find p xs ≡ None → list_any p xs ≡ false) → (b || list_any p xs) ≡ false
-    at true is more = absurd (cc)
-    at false is more = more is
 
 module _ {N : Type 0} (same : N → N → Bool) (decides : (g h : N) → Decides (same g h) (g ≡ h)) (half : N) (ip : Ip4) where
   -- ---- what is changed there, by the entry that it is changed from

@@ -10,7 +10,7 @@ use Rattle.vn_rules.specs.declared.arp.ArpEntryOf.{ArpEntryOf}
 use Rattle.vn_rules.specs.Arp.{new_entry, is_place, is_entry_at, entry_of, on_entry, with_entry}
 use Rattle.vn_rules.specs.Orders.{are_distinct}
 use Rattle.vn_rules.specs.Soundness.{is_same_entry, has_distinct_entries}
-use Rattle.vn_rules.proofs.ListTests.{all_push, distinct_map_same, distinct_push, distinct_weaker, both_pass, find_passes, edit_found}
+use Rattle.vn_rules.proofs.ListTests.{absent-none, found-some, all_push, distinct_map_same, distinct_push, distinct_weaker, both_pass, find_passes, edit_found}
 
 module _ {N : Type 0} (same : N → N → Bool) (decides : (g h : N) → Decides (same g h) (g ≡ h)) (half : N) (ip : Ip4) where
   -- ---- what the test of a place tells
@@ -154,25 +154,9 @@ module _ {N : Type 0} (same : N → N → Bool) (decides : (g h : N) → Decides
   pub with_entry-put : (f : ArpEntryOf N → ArpEntryOf N) (es : List (ArpEntryOf N)) → has_distinct_entries same es ≡ true → with_entry same half ip f es ≡ put (f (base es)) es
   with_entry-put f es apart = by (entry_of same half ip es) (list_any (is_entry_at same half ip) es) refl refl
     where
-      found : (es : List (ArpEntryOf N)) (e : ArpEntryOf N) → entry_of same half ip es ≡ Some e → list_any (is_entry_at same half ip) es ≡ true
-      found [] e is = absurd (cc)
-      found (d ∷ es) e is = at (is_entry_at same half ip d) is (found es e)
-        where
-          at : (b : Bool) → cond b (Some d) (entry_of same half ip es) ≡ Some e → (entry_of same half ip es ≡ Some e → list_any (is_entry_at same half ip) es ≡ true) → (b || list_any (is_entry_at same half ip) es) ≡ true
-          at true is more = refl
-          at false is more = more is
-
-      absent : (es : List (ArpEntryOf N)) → entry_of same half ip es ≡ None → list_any (is_entry_at same half ip) es ≡ false
-      absent [] is = refl
-      absent (d ∷ es) is = at (is_entry_at same half ip d) is (absent es)
-        where
-          at : (b : Bool) → cond b (Some d) (entry_of same half ip es) ≡ None → (entry_of same half ip es ≡ None → list_any (is_entry_at same half ip) es ≡ false) → (b || list_any (is_entry_at same half ip) es) ≡ false
-          at true is more = absurd (cc)
-          at false is more = more is
-
       by : (o : Option (ArpEntryOf N)) (b : Bool) → entry_of same half ip es ≡ o → list_any (is_entry_at same half ip) es ≡ b
           → cond b (on_entry same half ip f es) (es ++ f (new_entry half ip) ∷ []) ≡ cond b (on_place (f (unwrap_or o (new_entry half ip))) es) (es ++ f (unwrap_or o (new_entry half ip)) ∷ [])
-      by None true is so = absurd (both_ways _ (absent es is) so)
+      by None true is so = absurd (both_ways _ (absent-none (is_entry_at same half ip) es is) so)
       by None false is so = refl
       by (Some e) true is so = edit_found (is_entry_at same half ip) f es e (one_there es apart) is
-      by (Some e) false is so = absurd (both_ways _ so (found es e is))
+      by (Some e) false is so = absurd (both_ways _ so (found-some (is_entry_at same half ip) es e is))

@@ -1,22 +1,19 @@
--- ARP entries go with their timers: nothing new is named, the parts stay sound, and renaming goes through.
-use Rattle.std.proofs.Common.{◌≡◌, ℕ, Bool, true, false, not, ◌==◌, List, refl, sym, ap, ◌∙◌}
+-- ARP entries go with their timers: nothing new is named, and the parts stay sound.
+use Rattle.std.proofs.Common.{◌≡◌, ℕ, Bool, true, false, not, ◌||◌, ◌==◌, List, refl, sym, ap, ◌∙◌}
 use Rattle.std.specs.List.{list_all, count_by, filter}
 use Rattle.std.specs.Bool.{Decides}
 use Rattle.std.specs.Map.{keys_of}
-use Rattle.std.proofs.lemmas.Bool.{and_parts, and_from, both_ways, not-true, not-false, false_from_ne_true, false≢true, eqb-true}
+use Rattle.std.proofs.lemmas.Bool.{or_right, and_parts, and_from, both_ways, not-true, not-false, false_from_ne_true, false≢true, eqb-true}
 use Rattle.vn_types.specs.declared.address.Ip4.{Ip4}
 use Rattle.vn_types.specs.declared.interface.IfOf.{IfOf}
 use Rattle.vn_types.specs.declared.interface.IfOf.TheVariants.{Half}
-use Rattle.vn_types.proofs.ListMaps.{filter_map_same}
 use Rattle.vn_rules.specs.declared.arp.ArpEntryOf.{ArpEntryOf}
 use Rattle.vn_rules.specs.declared.ping.PingOf.{PingOf}
-use Rattle.vn_rules.specs.declared.timer.TimerOf.{TimerOf}
 use Rattle.vn_rules.specs.declared.timer.TimerOf.TheVariants.{Arp, Ping}
 use Rattle.vn_rules.specs.declared.parts.PartsOf.{PartsOf}
 use Rattle.vn_rules.specs.Arp.{is_timer_at, is_timer_where, without_entries}
 use Rattle.vn_rules.specs.Orders.{are_arp_entries, are_timers, are_rising}
 use Rattle.vn_rules.specs.Pings.{is_timer_for}
-use Rattle.vn_rules.specs.Renamed.{as_arp, as_timer, as_timed, renamed}
 use Rattle.vn_rules.specs.Soundness.{is_sound_parts, binds_locally, sends_locally, founds_routes, has_owner, owns_timers, times_pings, times_arp, timers_wanted, gave_arms, has_distinct_entries, covers_arp}
 use Rattle.vn_rules.specs.Timers.{Timed, turn_cmp}
 use Rattle.vn_rules.proofs.Kept.{all_filtered, all_passed, any_filter, count_filter, rising_kept}
@@ -51,7 +48,8 @@ module _ {N : Type 0} (gone : N → Ip4 → Bool) (p : PartsOf N) where
   unfolding without_entries
   without_entries-stopped = all_passed timer_stays p.timers.standing
 
-module _ {N : Type 0} (same : N → N → Bool) (decides : (a b : N) → Decides (same a b) (a ≡ b)) (gone : N → Ip4 → Bool) (p : PartsOf N) (s : SoundFacts same (times_arp same) p) where
+module _ {N : Type 0} (same : N → N → Bool) (decides : (a b : N) → Decides (same a b) (a ≡ b)) (gone : N → Ip4 → Bool) (p : PartsOf N)
+    (times : PartsOf N → Bool) (s : SoundFacts same times p) (counted : list_all (λ a. gone a.half a.ip || (count_by (is_timer_at same a) p.timers.standing == timers_wanted same a.state)) p.arp ≡ true) where
   abbrev timers_of : List (Timed N)
   timers_of = p.timers.standing
 
@@ -87,23 +85,25 @@ module _ {N : Type 0} (same : N → N → Bool) (decides : (a b : N) → Decides
 
   arp_timed : times_arp same (without_entries gone p) ≡ true
   unfolding times_arp without_entries
-  arp_timed = all_filtered (λ a. count_by (is_timer_at same a) timers_of == timers_wanted same a.state) (λ a. count_by (is_timer_at same a) (filter (timer_stays gone p) timers_of) == timers_wanted same a.state) (stays gone p) p.arp by s.arp_timed
+  arp_timed = all_filtered (λ a. gone a.half a.ip || (count_by (is_timer_at same a) timers_of == timers_wanted same a.state)) (λ a. count_by (is_timer_at same a) (filter (timer_stays gone p) timers_of) == timers_wanted same a.state) (stays gone p) p.arp by counted
     where
       untimed : (a : ArpEntryOf N) → stays gone p a ≡ true → (e : Timed N) → timer_stays gone p e ≡ false → is_timer_at same a e ≡ false
       untimed a kept (at, Ping id arm) goes = refl
       untimed a kept (at, Arp half ip) goes = false_from_ne_true _ (λ f. both_ways (gone a.half a.ip) (not-true _ kept) (sym (at_one a at half ip f) ∙ not-false _ goes))
 
-      by : (a : ArpEntryOf N) → stays gone p a ≡ true → (count_by (is_timer_at same a) timers_of == timers_wanted same a.state) ≡ true
+      by : (a : ArpEntryOf N) → stays gone p a ≡ true → (gone a.half a.ip || (count_by (is_timer_at same a) timers_of == timers_wanted same a.state)) ≡ true
           → (count_by (is_timer_at same a) (filter (timer_stays gone p) timers_of) == timers_wanted same a.state) ≡ true
-      by a kept right = ap (λ n. n == timers_wanted same a.state) (count_filter (is_timer_at same a) (timer_stays gone p) timers_of (λ e _. untimed a kept e)) ∙ right
+      by a kept right = ap (λ n. n == timers_wanted same a.state) (count_filter (is_timer_at same a) (timer_stays gone p) timers_of (λ e _. untimed a kept e))
+          ∙ sym (ap (λ b. b || (count_by (is_timer_at same a) timers_of == timers_wanted same a.state)) (not-true _ kept)) ∙ right
 
   abbrev own : IfOf N → Bool
   own = is_among same p.interfaces
 
   named : NamesPass own (without_entries gone p)
-  named = without_entries-names gone p own (own_names same (times_arp same) p s)
+  named = without_entries-names gone p own (own_names same times p s)
 
-  without_entries-facts : SoundFacts same (times_arp same) (without_entries gone p)
+  -- where each entry that stays has its own timers
+  pub without_entries-facts : SoundFacts same (times_arp same) (without_entries gone p)
   unfolding without_entries binds_locally sends_locally founds_routes gave_arms has_distinct_entries covers_arp are_arp_entries are_timers
   without_entries-facts = record {
     address_names = of_addresses own (without_entries gone p) named;
@@ -133,21 +133,8 @@ module _ {N : Type 0} (same : N → N → Bool) (decides : (a b : N) → Decides
   }
 
 pub without_entries-sound : {N : Type 0} (same : N → N → Bool) (decides : (a b : N) → Decides (same a b) (a ≡ b)) (gone : N → Ip4 → Bool) (p : PartsOf N) → is_sound_parts same p ≡ true → is_sound_parts same (without_entries gone p) ≡ true
-without_entries-sound same decides gone p sound = sound_from_facts same (times_arp same) (without_entries gone p) (without_entries-facts same decides gone p (facts_from_sound same (times_arp same) p sound))
-
--- ---- under other names of halves
-
-module _ {N M : Type 0} (r : N → M) (gone_n : N → Ip4 → Bool) (gone_m : M → Ip4 → Bool) (agree : (h : N) (ip : Ip4) → gone_m (r h) ip ≡ gone_n h ip) where
-  is_timer_where-renamed : (t : TimerOf N) → is_timer_where gone_m (as_timer r t) ≡ is_timer_where gone_n t
-  is_timer_where-renamed (Arp half ip) = agree half ip
-  is_timer_where-renamed (Ping id arm) = refl
-
-  pub without_entries-renamed : (p : PartsOf N) → without_entries gone_m (renamed r p) ≡ renamed r (without_entries gone_n p)
-  unfolding without_entries renamed
-  without_entries-renamed p i = record (renamed r p) {
-    arp = filter_map_same (as_arp r) (λ e. not (gone_n e.half e.ip)) (λ e. not (gone_m e.half e.ip)) (λ e. ap not (agree e.half e.ip)) p.arp i;
-    timers = record {
-      armed = p.timers.armed;
-      standing = filter_map_same (as_timed r) (λ e. not (is_timer_where gone_n e.1)) (λ e. not (is_timer_where gone_m e.1)) (λ e. ap not (is_timer_where-renamed e.1)) p.timers.standing i;
-    };
-  }
+unfolding times_arp
+without_entries-sound same decides gone p sound =
+    let f = facts_from_sound same (times_arp same) p sound in
+    sound_from_facts same (times_arp same) (without_entries gone p)
+    (without_entries-facts same decides gone p (times_arp same) f (all_weaker (λ a. count_by (is_timer_at same a) p.timers.standing == timers_wanted same a.state) _ (λ a is. or_right (gone a.half a.ip) _ is) p.arp f.arp_timed))

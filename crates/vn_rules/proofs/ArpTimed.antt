@@ -21,11 +21,12 @@ use Rattle.vn_rules.specs.Resolution.{untimed}
 use Rattle.vn_rules.specs.Routes.{covers}
 use Rattle.vn_rules.specs.Soundness.{sends_locally, binds_locally, times_pings, gave_arms, has_owner, owns_timers, timers_wanted, times_arp, times_arp_but, covers_arp, founds_routes, is_sound_parts, is_sound_but}
 use Rattle.vn_rules.specs.Timers.{turn_cmp, Timed, after_arm}
-use Rattle.vn_rules.proofs.ArpFacts.{none_from_all, at_place, timers-there, timers-apart, new-there, new-apart, has_but, has_own, own-apart, no_timer, with_put, owner-put, put_sound}
+use Rattle.vn_rules.proofs.ArpFacts.{at_place, timers-there, timers-apart, new-there, new-apart, has_but, has_own, own-apart, no_timer, with_put, owner-put, put_sound}
 use Rattle.vn_rules.proofs.ArpPlaces.{all_put, any_put_here}
+use Rattle.vn_rules.proofs.Kept.{none_from_all, rising_kept}
 use Rattle.vn_rules.proofs.ListTests.{all_weaker, all_filter, distinct_filter, find_passes, find_all}
 use Rattle.vn_rules.proofs.SoundFacts.{SoundFacts, facts_from_sound, sound_from_facts}
-use Rattle.vn_rules.proofs.TimerEdits.{Inserted, count_inserted, all_inserted, distinct_inserted, count_filter_all, count_filter_none, insert_entry-Inserted, rising-inserted, rising-filter}
+use Rattle.vn_rules.proofs.TimerEdits.{Inserted, count_inserted, all_inserted, distinct_inserted, count_filter_all, count_filter_none, insert_entry-Inserted, rising-inserted}
 
 pub all_apart : {A : Type 0} (p a q : A → Bool) → ((x : A) → p x ≡ true → a x ≡ false → q x ≡ true) → (xs : List A) → list_any a xs ≡ false → list_all p xs ≡ true → list_all q xs ≡ true
 all_apart p a q out [] none all = refl
@@ -62,7 +63,7 @@ module _ {N : Type 0} (same : N → N → Bool) (decides : (g h : N) → Decides
         routes = f.routes;
         arp = f.arp;
         sockets = f.sockets;
-        timers = let two = and_parts (are_rising turn_cmp (keys_of p.timers.standing)) _ f.timers in and_from _ _ (rising-filter keep turn_cmp p.timers.standing two.0) (distinct_filter keep _ p.timers.standing two.1);
+        timers = let two = and_parts (are_rising turn_cmp (keys_of p.timers.standing)) _ f.timers in and_from _ _ (rising_kept turn_cmp keep p.timers.standing two.0) (distinct_filter keep _ p.timers.standing two.1);
         pings = f.pings;
         loopback = f.loopback;
         ident = f.ident;
@@ -101,8 +102,8 @@ module _ {N : Type 0} (same : N → N → Bool) (decides : (g h : N) → Decides
         (let two = and_parts (are_rising turn_cmp (keys_of p.timers.standing)) _ f.timers in
         and_from _ _ (rising-inserted (deadline, p.timers.armed) (Arp half ip) p.timers.standing two.0)
         (distinct_inserted _ _ _ more _ two.1
-        (none_from_all (λ (e : Timed N). nat_lt e.0.1 p.timers.armed) _ (λ e is. let less = ltb-true _ _ is in ne_eqb p.timers.armed e.0.1 (λ eq. omega arith)) p.timers.standing f.arms_given)
-        (none_from_all (λ (e : Timed N). nat_lt e.0.1 p.timers.armed) _ (λ e is. let less = ltb-true _ _ is in ne_eqb e.0.1 p.timers.armed (λ eq. omega arith)) p.timers.standing f.arms_given)))
+        (none_from_all _ (λ (e : Timed N). nat_lt e.0.1 p.timers.armed) p.timers.standing (λ e is. let less = ltb-true _ _ is in ne_eqb p.timers.armed e.0.1 (λ eq. omega arith)) f.arms_given)
+        (none_from_all _ (λ (e : Timed N). nat_lt e.0.1 p.timers.armed) p.timers.standing (λ e is. let less = ltb-true _ _ is in ne_eqb e.0.1 p.timers.armed (λ eq. omega arith)) f.arms_given)))
       where
         new : Timed N
         new = ((deadline, p.timers.armed), Arp half ip)

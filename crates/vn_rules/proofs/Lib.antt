@@ -23,6 +23,7 @@ pub mod ArpFacts
 pub mod ArpTimed
 pub mod ArpKept
 pub mod ArpRemoved
+pub mod VariableLaws
 pub mod SocketSound
 pub mod SocketEdits
 pub mod SocketKept

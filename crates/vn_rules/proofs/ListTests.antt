@@ -124,6 +124,22 @@ module _ {A : Type 0} (p : A → Bool) where
       by true is found more = let same : x ≡ s = cc in ap p (sym same) ∙ is
       by false is found more = more found
 
+  pub found-some : (xs : List A) (s : A) → find p xs ≡ Some s → list_any p xs ≡ true
+  found-some [] s found = cc
+  found-some (x ∷ xs) s found = by (p x) found (found-some xs s)
+    where
+      by : (b : Bool) → cond b (Some x) (find p xs) ≡ Some s → (find p xs ≡ Some s → list_any p xs ≡ true) → (b || list_any p xs) ≡ true
+      by true found more = refl
+      by false found more = more found
+
+  pub absent-none : (xs : List A) → find p xs ≡ None → list_any p xs ≡ false
+  absent-none [] absent = refl
+  absent-none (x ∷ xs) absent = by (p x) absent (absent-none xs)
+    where
+      by : (b : Bool) → cond b (Some x) (find p xs) ≡ None → (find p xs ≡ None → list_any p xs ≡ false) → (b || list_any p xs) ≡ false
+      by true absent more = absurd (cc)
+      by false absent more = more absent
+
   pub find_all : (q : A → Bool) (xs : List A) (s : A) → find p xs ≡ Some s → list_all q xs ≡ true → q s ≡ true
   find_all q [] s found all = cc
   find_all q (x ∷ xs) s found all = let parts = and_parts (q x) _ all in by (p x) found parts.0 (λ found. find_all q xs s found parts.1)

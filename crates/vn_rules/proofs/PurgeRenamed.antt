@@ -23,7 +23,7 @@ use Rattle.vn_rules.specs.Renamed.{as_addr, as_target, as_routed, renamed}
 use Rattle.vn_rules.specs.Routes.{Routed, prefix_cmp, target_if, is_link_on, is_link_to, is_stranded, without_link, without_stranded, after_unlink, after_purge_routes}
 use Rattle.vn_rules.specs.Sockets.{unbound_from, without_grams_by}
 use Rattle.vn_rules.proofs.AddressLaws.{is_on-renamed, address_of-renamed, without_address-renamed}
-use Rattle.vn_rules.proofs.ArpRemoval.{without_entries-renamed}
+use Rattle.vn_rules.proofs.ArpLaws.{without_entries-renamed}
 use Rattle.vn_rules.proofs.PingRemoval.{without_pings-renamed, is_out_by-renamed}
 use Rattle.vn_rules.proofs.Renaming.{target_if-renamed}
 use Rattle.vn_rules.proofs.SocketRemoval.{unbound_from-renamed, without_grams_by-renamed}

@@ -1,5 +1,5 @@
 -- Soundness under other names of halves: each of its tests goes through a renaming that keeps the test on names.
-use Rattle.std.proofs.Common.{◌≡◌, Bool, ◌&&◌, ◌||◌, is_some, is_none, ◌==◌, nat_le, List, map, Option, Some, None, refl, ap, ap₂, ◌∙◌}
+use Rattle.std.proofs.Common.{◌≡◌, Bool, cond, ◌&&◌, ◌||◌, is_some, is_none, ◌==◌, nat_le, List, map, Option, Some, None, refl, ap, ap₂, ◌∙◌}
 use Rattle.std.specs.List.{list_all}
 use Rattle.std.proofs.lemmas.List.{length-map}
 use Rattle.std.proofs.lemmas.Map.Made.{keys_of-map_values}
@@ -28,7 +28,7 @@ use Rattle.vn_rules.specs.Routes.{Routed, prefix_cmp, is_link_on, covers}
 use Rattle.vn_rules.specs.Arp.{is_timer_at}
 use Rattle.vn_rules.specs.Pings.{is_timer_for}
 use Rattle.vn_rules.specs.Addresses.{local, is_address_of}
-use Rattle.vn_rules.specs.Soundness.{is_bound_locally, binds_locally, sends_locally, times_pings, gave_arms, has_distinct_arms, names_own, has_owner, owns_timers, timers_wanted, times_arp, has_distinct_entries, covers_arp, is_founded, founds_routes, keeps_timers, keeps_tables, is_sound_parts}
+use Rattle.vn_rules.specs.Soundness.{is_bound_locally, binds_locally, sends_locally, times_pings, gave_arms, has_distinct_arms, names_own, has_owner, owns_timers, timers_wanted, times_arp, times_arp_but, has_distinct_entries, covers_arp, is_founded, founds_routes, keeps_timers, keeps_tables, is_sound_parts, is_sound_but}
 use Rattle.vn_rules.specs.Ports.{are_in_conflict}
 use Rattle.vn_rules.specs.Timers.{Timed, turn_cmp}
 use Rattle.vn_rules.proofs.AddressLaws.{local-renamed}
@@ -145,6 +145,14 @@ module _ {N M : Type 0} (r : N → M) (at_n : N → N → Bool) (at_m : M → M 
       (λ a. ap (λ n. n == timers_wanted at_n a.state) (count_map_same (as_timed r) (is_timer_at at_n a) (is_timer_at at_m (as_arp r a)) (is_timer_at-renamed a) p.timers.standing))
       p.arp
 
+  times_arp_but-renamed : (half : N) (ip : Ip4) (p : PartsOf N) → times_arp_but at_m (r half) ip (renamed r p) ≡ times_arp_but at_n half ip p
+  unfolding times_arp_but renamed
+  times_arp_but-renamed half ip p =
+      all_map_same (as_arp r) _ _
+      (λ a. ap₂ (λ n here. n == cond here 0 (timers_wanted at_n a.state)) (count_map_same (as_timed r) (is_timer_at at_n a) (is_timer_at at_m (as_arp r a)) (is_timer_at-renamed a) p.timers.standing)
+      (ap (λ b. b && (a.ip.0 == ip.0)) (faithful a.half half)))
+      p.arp
+
   has_distinct_entries-renamed : (p : PartsOf N) → has_distinct_entries at_m (renamed r p).arp ≡ has_distinct_entries at_n p.arp
   unfolding has_distinct_entries renamed
   has_distinct_entries-renamed p = distinct_map_same (as_arp r) _ _ (λ a b. ap (λ same. same && (a.ip.0 == b.ip.0)) (faithful a.half b.half)) p.arp
@@ -183,3 +191,8 @@ module _ {N M : Type 0} (r : N → M) (at_n : N → N → Bool) (at_m : M → M 
   pub is_sound_parts-renamed : (p : PartsOf N) → is_sound_parts at_m (renamed r p) ≡ is_sound_parts at_n p
   is_sound_parts-renamed p =
       rw (names_own-renamed p, binds_locally-renamed r p, sends_locally-renamed r p, keeps_timers-renamed p, keeps_tables-renamed p, keeps_orders-renamed r p) refl
+
+  pub is_sound_but-renamed : (half : N) (ip : Ip4) (p : PartsOf N) → is_sound_but at_m (r half) ip (renamed r p) ≡ is_sound_but at_n half ip p
+  is_sound_but-renamed half ip p =
+      rw (names_own-renamed p, binds_locally-renamed r p, sends_locally-renamed r p, keeps_timers-renamed p, has_distinct_entries-renamed p, times_arp_but-renamed half ip p, covers_arp-renamed p, founds_routes-renamed p, gave_arms-renamed r p, has_distinct_arms-renamed r p, keeps_orders-renamed r p)
+      refl

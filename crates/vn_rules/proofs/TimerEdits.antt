@@ -1,13 +1,13 @@
 -- A stack's timers where one is armed or some are stopped: what is counted, and that they stay in order.
-use Rattle.std.proofs.Common.{◌≡◌, ℕ, ◌+◌, ◌<◌, Bool, true, false, cond, not, ◌||◌, List, [], ◌∷◌, ◌++◌, refl, sym, ap, ◌∙◌, arith}
+use Rattle.std.proofs.Common.{◌≡◌, ℕ, ◌+◌, ◌<◌, Bool, true, false, cond, not, List, [], ◌∷◌, ◌++◌, refl, sym, ap, ◌∙◌, arith}
 use Rattle.std.specs.Prelude.{nat_lt}
 use Rattle.std.specs.List.{list_any, list_all, filter, count_by}
-use Rattle.std.specs.Ordering.{match_ordering, is_lt}
+use Rattle.std.specs.Ordering.{match_ordering}
 use Rattle.std.specs.declared.cmp.Ordering.{Ordering}
 use Rattle.std.specs.declared.cmp.Ordering.TheVariants.{Less, Equal, Greater}
 use Rattle.std.specs.Map.{keys_of}
 use Rattle.std.specs.BTreeMap.{insert_entry}
-use Rattle.std.proofs.lemmas.Bool.{and_parts, and_from, or_parts, or_from, not-true, not_from_false, ltb-true}
+use Rattle.std.proofs.lemmas.Bool.{both_ways, false_from_ne_true, and_parts, and_from, or_parts, or_from, not-true, not_from_false, ltb-true}
 use Rattle.std.proofs.lemmas.Bool.Decides.{nat_tests}
 use Rattle.std.proofs.lemmas.List.Folds.{list_all-append}
 use Rattle.std.proofs.lemmas.List.Sums.{sum_by-append, sum_by-cons}
@@ -15,6 +15,7 @@ use Rattle.vn_types.proofs.EntryLaws.{IsStrictlySortedBy-insert_entry}
 use Rattle.vn_rules.specs.declared.timer.TimerOf.{TimerOf}
 use Rattle.vn_rules.specs.Orders.{are_rising, are_distinct}
 use Rattle.vn_rules.specs.Timers.{Turn, turn_cmp, Timed}
+use Rattle.vn_rules.proofs.Kept.{all_passed, count_filter}
 use Rattle.vn_rules.proofs.OrderLaws.{IsStrictlySortedBy-from_rising, rising_from_sorted}
 use Rattle.vn_rules.proofs.TimerOrder.{turn_cmp_total}
 
@@ -60,42 +61,23 @@ module _ {A : Type 0} where
 
 -- ---- what is counted where some are taken away
 
+-- nothing is counted where all pass a test that rules it out
+pub zero_from_all : {A : Type 0} (p q : A → Bool) → ((x : A) → p x ≡ true → q x ≡ false) → (xs : List A) → list_all p xs ≡ true → count_by q xs ≡ 0
+zero_from_all p q out [] all = refl
+zero_from_all p q out (x ∷ xs) all =
+    let parts = and_parts (p x) _ all in
+    let fails : q x ≡ false = out x parts.0 in
+    let here : cond {A = ℕ} (q x) 1 0 ≡ 0 = rw fails refl in
+    let rest : count_by q xs ≡ 0 = zero_from_all p q out xs parts.1 in
+    let whole : count_by q (x ∷ xs) ≡ cond {A = ℕ} (q x) 1 0 + count_by q xs = sum_by-cons (λ z. cond (q z) 1 0) x xs in
+    omega arith
+
 module _ {A : Type 0} (keep q : A → Bool) where
   pub count_filter_all : ((x : A) → q x ≡ true → keep x ≡ true) → (xs : List A) → count_by q (filter keep xs) ≡ count_by q xs
-  count_filter_all kept [] = refl
-  count_filter_all kept (x ∷ xs) = by (keep x) (q x) refl refl (count_filter_all kept xs)
-    where
-      step : (ys : List A) → count_by q (x ∷ ys) ≡ cond {A = ℕ} (q x) 1 0 + count_by q ys
-      step ys = sum_by-cons (λ z. cond (q z) 1 0) x ys
-
-      by : (b c : Bool) → keep x ≡ b → q x ≡ c → count_by q (filter keep xs) ≡ count_by q xs → count_by q (cond b (x ∷ filter keep xs) (filter keep xs)) ≡ count_by q (x ∷ xs)
-      by true c is so more = step (filter keep xs) ∙ ap (λ n. cond {A = ℕ} (q x) 1 0 + n) more ∙ sym (step xs)
-      by false true is so more = let yes : keep x ≡ true = kept x so in absurd (cc)
-      by false false is so more =
-          let zero : cond {A = ℕ} (q x) 1 0 ≡ 0 = rw so refl in
-          let all : count_by q (x ∷ xs) ≡ cond {A = ℕ} (q x) 1 0 + count_by q xs = step xs in
-          omega arith
+  count_filter_all kept xs = count_filter q keep xs (λ x _ goes. false_from_ne_true (q x) (λ is. both_ways (keep x) goes (kept x is)))
 
   pub count_filter_none : ((x : A) → q x ≡ true → keep x ≡ false) → (xs : List A) → count_by q (filter keep xs) ≡ 0
-  count_filter_none gone [] = refl
-  count_filter_none gone (x ∷ xs) = by (keep x) (q x) refl refl (count_filter_none gone xs)
-    where
-      by : (b c : Bool) → keep x ≡ b → q x ≡ c → count_by q (filter keep xs) ≡ 0 → count_by q (cond b (x ∷ filter keep xs) (filter keep xs)) ≡ 0
-      by true true is so more = let away : keep x ≡ false = gone x so in absurd (cc)
-      by true false is so more =
-          let zero : cond {A = ℕ} (q x) 1 0 ≡ 0 = rw so refl in
-          let all : count_by q (x ∷ filter keep xs) ≡ cond {A = ℕ} (q x) 1 0 + count_by q (filter keep xs) = sum_by-cons (λ z. cond (q z) 1 0) x (filter keep xs) in
-          omega arith
-      by false c is so more = more
-
-  pub any_filter_kept : ((x : A) → q x ≡ true → keep x ≡ true) → (xs : List A) → list_any q (filter keep xs) ≡ list_any q xs
-  any_filter_kept kept [] = refl
-  any_filter_kept kept (x ∷ xs) = by (keep x) (q x) refl refl (any_filter_kept kept xs)
-    where
-      by : (b c : Bool) → keep x ≡ b → q x ≡ c → list_any q (filter keep xs) ≡ list_any q xs → list_any q (cond b (x ∷ filter keep xs) (filter keep xs)) ≡ (q x || list_any q xs)
-      by true c is so more = ap (λ b. q x || b) more
-      by false true is so more = let yes : keep x ≡ true = kept x so in absurd (cc)
-      by false false is so more = rw so more
+  count_filter_none gone xs = zero_from_all keep q (λ x stays. false_from_ne_true (q x) (λ is. both_ways (keep x) (gone x is) stays)) (filter keep xs) (all_passed keep xs)
 
 -- ---- timers
 
@@ -118,24 +100,3 @@ module _ {N : Type 0} where
   pub rising-inserted : (at : Turn) (what : TimerOf N) (es : List (Timed N)) → are_rising turn_cmp (keys_of es) ≡ true → are_rising turn_cmp (keys_of (insert_entry turn_cmp es at what)) ≡ true
   rising-inserted at what es rising =
       rising_from_sorted turn_cmp _ (IsStrictlySortedBy-insert_entry turn_cmp turn_cmp_total at what es (IsStrictlySortedBy-from_rising turn_cmp (keys_of es) rising))
-
--- ---- entries that are kept stay in order
-
-module _ {K V : Type 0} (keep : K × V → Bool) where
-  all_keys-filter : (q : K → Bool) (es : List (K × V)) → list_all q (keys_of es) ≡ true → list_all q (keys_of (filter keep es)) ≡ true
-  all_keys-filter q [] all = refl
-  all_keys-filter q (e ∷ es) all = let parts = and_parts (q e.0) _ all in by (keep e) parts.0 (all_keys-filter q es parts.1)
-    where
-      by : (b : Bool) → q e.0 ≡ true → list_all q (keys_of (filter keep es)) ≡ true → list_all q (keys_of (cond b (e ∷ filter keep es) (filter keep es))) ≡ true
-      by true here rest = and_from _ _ here rest
-      by false here rest = rest
-
-  pub rising-filter : (cmp : K → K → Ordering) (es : List (K × V)) → are_rising cmp (keys_of es) ≡ true → are_rising cmp (keys_of (filter keep es)) ≡ true
-  rising-filter cmp [] rising = refl
-  rising-filter cmp (e ∷ es) rising =
-      let parts = and_parts (list_all (λ q. is_lt (cmp e.0 q)) (keys_of es)) _ rising in
-      by (keep e) (all_keys-filter (λ q. is_lt (cmp e.0 q)) es parts.0) (rising-filter cmp es parts.1)
-    where
-      by : (b : Bool) → list_all (λ q. is_lt (cmp e.0 q)) (keys_of (filter keep es)) ≡ true → are_rising cmp (keys_of (filter keep es)) ≡ true → are_rising cmp (keys_of (cond b (e ∷ filter keep es) (filter keep es))) ≡ true
-      by true below rest = and_from _ _ below rest
-      by false below rest = rest
