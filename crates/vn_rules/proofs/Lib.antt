@@ -1,6 +1,7 @@
 pub mod ListEdits
 pub mod ListTests
 pub mod Kept
+pub mod EntryMaps
 pub mod Renaming
 pub mod NetworkLaws
 pub mod TimerOrder
@@ -36,4 +37,7 @@ pub mod RouteRemoval
 pub mod AddressRemoval
 pub mod Purged
 pub mod InterfaceLaws
+pub mod RouteLaws
 pub mod PurgeRenamed
+pub mod RouteAdded
+pub mod AddressAdded

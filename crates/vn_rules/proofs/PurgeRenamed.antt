@@ -20,12 +20,13 @@ use Rattle.vn_rules.specs.Networks.{lies_in}
 use Rattle.vn_rules.specs.Pings.{is_from, is_out_by, without_pings}
 use Rattle.vn_rules.specs.Purge.{routes_without, is_uncovered, without_addr, without_found, dropped, without_addrs, without_names, purged}
 use Rattle.vn_rules.specs.Renamed.{as_addr, as_target, as_routed, renamed}
-use Rattle.vn_rules.specs.Routes.{Routed, prefix_cmp, target_if, is_link_on, is_link_to, is_stranded, without_link, without_stranded, after_unlink, after_purge_routes}
+use Rattle.vn_rules.specs.Routes.{Routed, prefix_cmp, target_if, is_link_to, is_stranded, without_link, without_stranded, after_unlink, after_purge_routes}
 use Rattle.vn_rules.specs.Sockets.{unbound_from, without_grams_by}
 use Rattle.vn_rules.proofs.AddressLaws.{is_on-renamed, address_of-renamed, without_address-renamed}
 use Rattle.vn_rules.proofs.ArpLaws.{without_entries-renamed}
 use Rattle.vn_rules.proofs.PingRemoval.{without_pings-renamed, is_out_by-renamed}
 use Rattle.vn_rules.proofs.Renaming.{target_if-renamed}
+use Rattle.vn_rules.proofs.RouteLaws.{is_link_on-renamed}
 use Rattle.vn_rules.proofs.SocketRemoval.{unbound_from-renamed, without_grams_by-renamed}
 use Rattle.vn_rules.proofs.SoundRenamed.{covers-renamed}
 
@@ -35,16 +36,12 @@ module _ {N M : Type 0} (r : N → M) (at_n : N → N → Bool) (at_m : M → M 
 
   -- ---- routes
 
-  is_link_on-renamed : (on : IfOf N) (t : TargetOf N) → is_link_on at_m (as_if r on) (as_target r t) ≡ is_link_on at_n on t
-  is_link_on-renamed on (Link own) = if_kept own on
-  is_link_on-renamed on (Gateway via half) = refl
-
   is_stranded-renamed : (on : IfOf N) (rs : List (Routed N)) (t : TargetOf N) → is_stranded at_m (as_if r on) (map (as_routed r) rs) (as_target r t) ≡ is_stranded at_n on rs t
   is_stranded-renamed on rs (Link own) = refl
   is_stranded-renamed on rs (Gateway via half) = ap₂ (λ b c. b && not c) (if_kept (Half half) on) (covers-renamed r at_n at_m faithful (Half half) via rs)
 
   without_link-renamed : (to : Prefix) (on : IfOf N) (rs : List (Routed N)) → without_link at_m to (as_if r on) (map (as_routed r) rs) ≡ map (as_routed r) (without_link at_n to on rs)
-  without_link-renamed to on rs = filter_map_same (as_routed r) (λ e. not (is_link_to at_n to on e)) (λ e. not (is_link_to at_m to (as_if r on) e)) (λ e. ap (λ b. not (is_at (prefix_cmp to) e.0 && b)) (is_link_on-renamed on e.1)) rs
+  without_link-renamed to on rs = filter_map_same (as_routed r) (λ e. not (is_link_to at_n to on e)) (λ e. not (is_link_to at_m to (as_if r on) e)) (λ e. ap (λ b. not (is_at (prefix_cmp to) e.0 && b)) (is_link_on-renamed r at_n at_m faithful on e.1)) rs
 
   without_stranded-renamed : (on : IfOf N) (rs : List (Routed N)) → without_stranded at_m (as_if r on) (map (as_routed r) rs) ≡ map (as_routed r) (without_stranded at_n on rs)
   without_stranded-renamed on rs = filter_map_same (as_routed r) (λ e. not (is_stranded at_n on rs e.1)) (λ e. not (is_stranded at_m (as_if r on) (map (as_routed r) rs) e.1)) (λ e. ap not (is_stranded-renamed on rs e.1)) rs

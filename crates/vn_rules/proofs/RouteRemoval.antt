@@ -1,13 +1,12 @@
 -- What the routes that are left still cover and stand on, where an address, an interface route or a half is gone.
-use Rattle.std.proofs.Common.{◌≡◌, ℕ, Bool, true, false, cond, not, ◌&&◌, ◌==◌, List, Some, refl, sym, ap, ◌∙◌, arith}
+use Rattle.std.proofs.Common.{◌≡◌, Bool, true, false, cond, not, ◌&&◌, ◌==◌, List, Some, refl, sym, ap, ◌∙◌}
 use Rattle.std.specs.Bool.{Decides}
 use Rattle.std.specs.BTreeMap.{is_at}
 use Rattle.std.specs.Cmp.{tied_itself}
 use Rattle.std.specs.List.{list_any, list_all, filter}
 use Rattle.std.specs.Map.{keys_of}
-use Rattle.std.specs.Ordering.{nat_cmp, ordering_then, is_eq}
+use Rattle.std.specs.Ordering.{is_eq}
 use Rattle.std.proofs.lemmas.Bool.{and_parts, and_from, and_left, both_ways, not-true, not-false, false_from_ne_true, false≢true, true≢false, eqb-true, cond_both}
-use Rattle.std.proofs.lemmas.Bool.Decides.{nat_tests}
 use Rattle.vn_types.specs.declared.address.Ip4.{Ip4}
 use Rattle.vn_types.specs.declared.address.Prefix.{Prefix}
 use Rattle.vn_types.specs.declared.interface.IfOf.{IfOf}
@@ -26,18 +25,9 @@ use Rattle.vn_rules.specs.Soundness.{is_founded}
 use Rattle.vn_rules.proofs.Kept.{all_filtered, any_filter, rising_kept, keys_kept}
 use Rattle.vn_rules.proofs.ListTests.{all_filter, all_weaker}
 use Rattle.vn_rules.proofs.OrderLaws.{prefix_cmp_total}
+use Rattle.vn_rules.proofs.RouteChoice.{prefix-exact}
 
 -- ---- prefixes
-
--- prefixes that tie are one
-pub prefix_tie : (p q : Prefix) → is_at (prefix_cmp p) q ≡ true → p ≡ q
-prefix_tie p q tie = λ i. record { net = record { 0 = one p.net.0 p.len q.net.0 q.len tie i }; len = two p.net.0 p.len q.net.0 q.len tie i }
-  where
-    one : (x m y n : ℕ) → is_eq (ordering_then (nat_cmp x y) (nat_cmp m n)) ≡ true → x ≡ y
-    one x m y n e = grind (arith, nat_tests)
-
-    two : (x m y n : ℕ) → is_eq (ordering_then (nat_cmp x y) (nat_cmp m n)) ≡ true → m ≡ n
-    two x m y n e = grind (arith, nat_tests)
 
 pub prefix_ties : (p : Prefix) → is_at (prefix_cmp p) p ≡ true
 prefix_ties p = ap is_eq (tied_itself prefix_cmp_total p)
@@ -146,7 +136,7 @@ module _ {N : Type 0} (same : N → N → Bool) (decides : (a b : N) → Decides
         by : (b : Bool) → is_link_to same (prefix_of a) a.on (to, Link own) ≡ b → list_any (is_address_of same own to) left ≡ true
         by true is =
             let parts = and_parts (is_at (prefix_cmp (prefix_of a)) to) (if_same same own a.on) is in
-            (λ i. list_any (is_address_of same ((if_decides own a.on).0 parts.1 i) (sym (prefix_tie (prefix_of a) to parts.0) i)) left) ∙ another
+            (λ i. list_any (is_address_of same ((if_decides own a.on).0 parts.1 i) (sym (prefix-exact (prefix_of a) to parts.0) i)) left) ∙ another
         by false is = kept_network own to is ∙ any
 
   module _ (a : AddrOf N) (p q : PartsOf N) (is_left : q.addresses ≡ without_address same (Some a) p.addresses) where

@@ -2,10 +2,7 @@
 use Rattle.std.proofs.Common.{◌≡◌, ℕ, ◌+◌, Bool, true, false, cond, not, ◌==◌, List, [], ◌∷◌, map, Option, Some, None, refl, ap, ap₂, ◌∙◌}
 use Rattle.std.specs.List.{filter}
 use Rattle.std.specs.Option.{option_map}
-use Rattle.std.specs.Ordering.{is_lt, match_ordering}
-use Rattle.std.specs.declared.cmp.Ordering.{Ordering}
-use Rattle.std.specs.declared.cmp.Ordering.TheVariants.{Less, Equal, Greater}
-use Rattle.std.specs.Map.{remove_entry}
+use Rattle.std.specs.Ordering.{is_lt}
 use Rattle.std.specs.BTreeMap.{insert_entry, is_at}
 use Rattle.vn_types.proofs.ListMaps.{filter_map_same, any_map_same}
 use Rattle.vn_rules.specs.declared.timer.TimerOf.{TimerOf}
@@ -13,7 +10,8 @@ use Rattle.vn_rules.specs.declared.timer.TimerOf.TheVariants.{Arp, Ping}
 use Rattle.vn_rules.specs.declared.timer.TimersOf.{TimersOf}
 use Rattle.vn_rules.specs.Interfaces.{is_timer_of}
 use Rattle.vn_rules.specs.Renamed.{as_timer, as_timed, as_timers}
-use Rattle.vn_rules.specs.Timers.{Turn, turn_cmp, Timed, no_timers, with_arm, after_arm, has_timer, without_timer, earlier, earliest, is_due, next_due, due, without_timed, after_due, soonest, lesser, least, times_without}
+use Rattle.vn_rules.specs.Timers.{turn_cmp, Timed, no_timers, with_arm, after_arm, has_timer, without_timer, earlier, earliest, is_due, next_due, due, without_timed, after_due, soonest, lesser, least, times_without}
+use Rattle.vn_rules.proofs.EntryMaps.{insert_entry-mapped, remove_entry-mapped}
 use Rattle.vn_rules.proofs.Renaming.{is_timer_of-renamed}
 
 module _ {N M : Type 0} (r : N → M) where
@@ -24,21 +22,10 @@ module _ {N M : Type 0} (r : N → M) where
   with_arm-renamed number (Arp half ip) = refl
   with_arm-renamed number (Ping id arm) = refl
 
-  insert_entry-renamed : (es : List (Timed N)) (at : Turn) (what : TimerOf N) → insert_entry turn_cmp (map (as_timed r) es) at (as_timer r what) ≡ map (as_timed r) (insert_entry turn_cmp es at what)
-  insert_entry-renamed [] at what = refl
-  insert_entry-renamed (e ∷ es) at what = by (turn_cmp at e.0) (insert_entry-renamed es at what)
-    where
-      by : (o : Ordering) → insert_entry turn_cmp (map (as_timed r) es) at (as_timer r what) ≡ map (as_timed r) (insert_entry turn_cmp es at what)
-          → match_ordering o ((at, as_timer r what) ∷ as_timed r e ∷ map (as_timed r) es) ((e.0, as_timer r what) ∷ map (as_timed r) es) (as_timed r e ∷ insert_entry turn_cmp (map (as_timed r) es) at (as_timer r what))
-          ≡ map (as_timed r) (match_ordering o ((at, what) ∷ e ∷ es) ((e.0, what) ∷ es) (e ∷ insert_entry turn_cmp es at what))
-      by Less more = refl
-      by Equal more = refl
-      by Greater more = ap (λ rest. as_timed r e ∷ rest) more
-
   pub after_arm-renamed : (deadline : ℕ) (what : TimerOf N) (t : TimersOf N) → after_arm deadline (as_timer r what) (as_timers r t) ≡ as_timers r (after_arm deadline what t)
   after_arm-renamed deadline what t i = record {
     armed = t.armed + 1;
-    standing = (ap (insert_entry turn_cmp (map (as_timed r) t.standing) (deadline, t.armed)) (with_arm-renamed t.armed what) ∙ insert_entry-renamed t.standing (deadline, t.armed) (with_arm t.armed what)) i;
+    standing = (ap (insert_entry turn_cmp (map (as_timed r) t.standing) (deadline, t.armed)) (with_arm-renamed t.armed what) ∙ insert_entry-mapped (as_timer r) turn_cmp t.standing (deadline, t.armed) (with_arm t.armed what)) i;
   }
 
   pub has_timer-renamed : (arm : ℕ) (t : TimersOf N) → has_timer arm (as_timers r t) ≡ has_timer arm t
@@ -74,21 +61,12 @@ module _ {N M : Type 0} (r : N → M) where
       by None = refl
       by (Some e) = refl
 
-  remove_entry-renamed : (at : Turn) (es : List (Timed N)) → remove_entry (is_at (turn_cmp at)) (map (as_timed r) es) ≡ map (as_timed r) (remove_entry (is_at (turn_cmp at)) es)
-  remove_entry-renamed at [] = refl
-  remove_entry-renamed at (e ∷ es) = by (is_at (turn_cmp at) e.0) (remove_entry-renamed at es)
-    where
-      by : (b : Bool) → remove_entry (is_at (turn_cmp at)) (map (as_timed r) es) ≡ map (as_timed r) (remove_entry (is_at (turn_cmp at)) es)
-          → cond b (map (as_timed r) es) (as_timed r e ∷ remove_entry (is_at (turn_cmp at)) (map (as_timed r) es)) ≡ map (as_timed r) (cond b es (e ∷ remove_entry (is_at (turn_cmp at)) es))
-      by true more = refl
-      by false more = ap (λ rest. as_timed r e ∷ rest) more
-
   pub after_due-renamed : (now : ℕ) (t : TimersOf N) → after_due now (as_timers r t) ≡ as_timers r (after_due now t)
   after_due-renamed now t = ap (λ o. without_timed o (as_timers r t)) (next_due-renamed now t) ∙ by (next_due now t)
     where
       by : (o : Option (Timed N)) → without_timed (option_map (as_timed r) o) (as_timers r t) ≡ as_timers r (without_timed o t)
       by None = refl
-      by (Some e) = λ i. record { armed = t.armed; standing = remove_entry-renamed e.0 t.standing i }
+      by (Some e) = λ i. record { armed = t.armed; standing = remove_entry-mapped (as_timer r) (is_at (turn_cmp e.0)) t.standing i }
 
   -- ---- deadlines
 
