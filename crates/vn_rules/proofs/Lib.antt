@@ -41,3 +41,5 @@ pub mod RouteLaws
 pub mod PurgeRenamed
 pub mod RouteAdded
 pub mod AddressAdded
+pub mod PingLaws
+pub mod PingAwaited

@@ -9,7 +9,11 @@ use Rattle.vn_rules.specs.declared.ping.PingsOf.{PingsOf}
 use Rattle.vn_rules.specs.declared.timer.TimerOf.TheVariants.{Arp, Ping}
 use Rattle.vn_rules.specs.declared.timer.TimersOf.{TimersOf}
 use Rattle.vn_rules.specs.declared.parts.PartsOf.{PartsOf}
-use Rattle.vn_rules.specs.Timers.{Timed}
+use Rattle.vn_rules.specs.Timers.{Timed, after_arm}
+
+-- how long a reply is awaited, in milliseconds
+abbrev pub reply_time : ℕ
+reply_time = 10000
 
 module _ {N : Type 0} where
   -- whether it is the timer of that awaited ping
@@ -35,6 +39,18 @@ module _ {N : Type 0} where
   abbrev pub after_ping : PingOf N → PingsOf N → PingsOf N
   after_ping ping pings =
       record { next = (pings.next + 1) % 2 ^ 16; awaited = pings.awaited ++ ping ∷ [] }
+
+  -- the next request, which the next timer is for
+  abbrev pub next_ping : Ip4 → Ip4 → IfOf N → PartsOf N → PingOf N
+  next_ping src dst out p =
+      record { id = p.pings.next; src = src; dst = dst; out = out; arm = p.timers.armed }
+
+  -- its reply is awaited from now on
+  unfoldable pub awaiting : ℕ → Ip4 → Ip4 → IfOf N → PartsOf N → PartsOf N
+  awaiting now src dst out p = record p {
+    pings = after_ping (next_ping src dst out p) p.pings;
+    timers = after_arm (now + reply_time) (Ping p.pings.next p.timers.armed) p.timers;
+  }
 
   -- whether a reply with the identifier from the address answers the request (RFC 792)
   abbrev pub is_answered_by : ℕ → Ip4 → PingOf N → Bool
@@ -87,6 +103,10 @@ module _ {N : Type 0} where
     pings = pings_without gone p.pings;
     timers = timers_without gone p.pings.awaited p.timers;
   }
+
+  -- an awaited ping has come to its end, and its timer
+  abbrev pub without_ping : PingOf N → PartsOf N → PartsOf N
+  without_ping ping p = without_pings (is_timed_by ping.arm) p
 
 module _ {N : Type 0} (same : N → N → Bool) where
   -- whether the request went out by the interface
