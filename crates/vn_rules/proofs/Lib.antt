@@ -43,3 +43,4 @@ pub mod RouteAdded
 pub mod AddressAdded
 pub mod PingLaws
 pub mod PingAwaited
+pub mod NamedHalves

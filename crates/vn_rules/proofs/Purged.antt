@@ -23,7 +23,7 @@ use Rattle.vn_rules.specs.Routes.{Routed, target_if, covers, after_purge_routes}
 use Rattle.vn_rules.specs.Sockets.{without_grams_by}
 use Rattle.vn_rules.specs.Soundness.{is_founded, binds_locally, sends_locally, owns_timers, times_pings, times_arp, covers_arp, founds_routes, gave_arms, is_sound_parts}
 use Rattle.vn_rules.specs.Timers.{Timed}
-use Rattle.vn_rules.proofs.Kept.{IsIn, all_in, all_filtered, all_passed, any_filter, none_from_all}
+use Rattle.vn_rules.proofs.Kept.{IsIn, all_from_none, all_in, all_filtered, all_passed, any_filter, none_from_all}
 use Rattle.vn_rules.proofs.ListTests.{all_filter, all_weaker, all_both, none_filter}
 use Rattle.vn_rules.proofs.Named.{NamesPass, names_parts, names_from, own_names, of_addresses, of_routes, of_arp, of_pings, of_grams}
 use Rattle.vn_rules.proofs.SoundFacts.{SoundFacts, facts_from_sound, sound_from_facts}
@@ -197,6 +197,11 @@ module _ {N : Type 0} (same : N → N → Bool) (h : N) (p : PartsOf N) where
   unfolding purged
   purged-names t all = names_from t (without_names same h unaddressed) (without_names-names same h unaddressed t
       (without_addrs-P same (NamesPass t) (λ a q. without_addr-names same a q t) own_addresses p (names_parts t p all)))
+
+  -- so what no part named, none names
+  pub purged-unnamed : (on : IfOf N) → is_among same (named_ifs p) on ≡ false → is_among same (named_ifs (purged same h p)) on ≡ false
+  purged-unnamed on none = none_from_all (if_same same on) (λ i. not (if_same same on i)) (named_ifs (purged same h p)) (λ i. not-true (if_same same on i))
+      (purged-names (λ i. not (if_same same on i)) (all_from_none (if_same same on) (named_ifs p) none))
 
   pub purged-interfaces : (purged same h p).interfaces ≡ p.interfaces
   unfolding purged
