@@ -14,9 +14,9 @@ use Rattle.vn_rules.specs.declared.socket.SocketOf.{SocketOf}
 use Rattle.vn_rules.specs.declared.socket.TheConstants.{RECEIVED_MAX}
 use Rattle.vn_rules.specs.Ports.{first_port, conflicts, is_port_free, automatic_port}
 use Rattle.vn_rules.specs.Renamed.{as_gram, as_socket}
-use Rattle.vn_rules.specs.Sockets.{is_named, socket_named, others, on_socket, new_socket, after_open, port_asked, after_bind, port_at, connected, after_connect, with_ttl, after_close, after_sent, cleared, first_gram, after_recv, qualifies, socket_for, is_queue_full, queued, with_gram, has_sent, refused_by}
+use Rattle.vn_rules.specs.Sockets.{is_named, socket_named, others, on_socket, new_socket, after_open, port_asked, after_bind, port_at, connected, after_connect, with_ttl, after_close, after_sent, cleared, first_gram, after_recv, qualifies, socket_for, is_queue_full, queued, is_full_at, with_gram, has_sent, has_sender, refused_by}
 use Rattle.vn_rules.specs.SocketRefusals.{Conditions, open_refusals, of_open, closed_refusals, bind_refusals, is_bad, connect_refusals, send_refusals, recv_refusals}
-use Rattle.vn_rules.proofs.ListEdits.{position_map_same, edit_map_same, edit_at_map_same}
+use Rattle.vn_rules.proofs.ListEdits.{position_map_same, edit_map_same, option_map_or_same, edit_at_map_same}
 
 module _ {N M : Type 0} (r : N → M) where
   abbrev renames : List (SocketOf N) → List (SocketOf M)
@@ -98,6 +98,10 @@ module _ {N M : Type 0} (r : N → M) where
   pub is_queue_full-renamed : (s : SocketOf N) → is_queue_full (as_socket r s) ≡ is_queue_full s
   is_queue_full-renamed s = ap (nat_le RECEIVED_MAX) (length-map s.queue (as_gram r))
 
+  pub is_full_at-renamed : (place : ℕ) (sockets : List (SocketOf N)) → is_full_at place (renames sockets) ≡ is_full_at place sockets
+  is_full_at-renamed place sockets =
+      ap (λ o. option_map_or is_queue_full o false) (slice_get-map (as_socket r) sockets place) ∙ option_map_or_same (as_socket r) is_queue_full is_queue_full is_queue_full-renamed false (slice_get sockets place)
+
   queued-renamed : (g : GramOf N) (s : SocketOf N) → queued (as_gram r g) (as_socket r s) ≡ as_socket r (queued g s)
   queued-renamed g s = rw (is_queue_full-renamed s) (by (is_queue_full s))
     where
@@ -107,6 +111,9 @@ module _ {N M : Type 0} (r : N → M) where
 
   pub with_gram-renamed : (place : ℕ) (g : GramOf N) (sockets : List (SocketOf N)) → with_gram place (as_gram r g) (renames sockets) ≡ renames (with_gram place g sockets)
   with_gram-renamed place g sockets = edit_at_map_same (as_socket r) (queued g) (queued (as_gram r g)) (queued-renamed g) place sockets
+
+  pub has_sender-renamed : (src : Ip4) (sport : ℕ) (dst : Ip4) (dport : ℕ) (sockets : List (SocketOf N)) → has_sender src sport dst dport (renames sockets) ≡ has_sender src sport dst dport sockets
+  has_sender-renamed src sport dst dport sockets = any_map_same (as_socket r) (has_sent src sport dst dport) (has_sent src sport dst dport) (λ s. refl) sockets
 
   pub refused_by-renamed : (src : Ip4) (sport : ℕ) (dst : Ip4) (dport : ℕ) (sockets : List (SocketOf N)) → refused_by src sport dst dport (renames sockets) ≡ renames (refused_by src sport dst dport sockets)
   refused_by-renamed src sport dst dport sockets =

@@ -1,7 +1,7 @@
 -- The open UDP sockets of a stack, in order of opening (udp(4)).
 use Rattle.std.specs.Prelude.{ℕ, Bool, true, false, not, ◌==◌, ◌&&◌, nat_le, List, [], ◌∷◌, ◌++◌, length, drop, map, Option, Some, None, slice_get, if◌then◌else◌}
-use Rattle.std.specs.List.{filter, find, position, slice_set}
-use Rattle.std.specs.Option.{option_map_or, option_and_then, option_or}
+use Rattle.std.specs.List.{list_any, filter, find, position, slice_set}
+use Rattle.std.specs.Option.{option_map, option_map_or, option_and_then, option_or}
 use Rattle.std.specs.Str.{bytes_eq}
 use Rattle.vn_types.specs.declared.address.Ip4.{Ip4}
 use Rattle.vn_types.specs.declared.interface.IfOf.{IfOf}
@@ -103,6 +103,10 @@ module _ {N : Type 0} where
   abbrev pub after_recv : List ℕ → List (SocketOf N) → List (SocketOf N)
   after_recv name sockets = on_socket name (λ s. record s { queue = drop 1 s.queue }) sockets
 
+  -- where a datagram goes: to the address and port that are given, or else to the peer
+  abbrev pub destination : Option (Ip4 × ℕ) → SocketOf N → Option (Ip4 × ℕ)
+  destination to s = option_or to (option_map (λ (peer : Peer). (peer.ip, peer.port)) s.peer)
+
   -- ---- datagrams and errors that come
 
   -- whether a socket hears a source: a connected one hears its peer alone
@@ -125,7 +129,11 @@ module _ {N : Type 0} where
   abbrev pub queued : GramOf N → SocketOf N → SocketOf N
   queued g s = if is_queue_full s then s else record s { queue = s.queue ++ g ∷ [] }
 
-  -- the socket at a place has it
+  -- whether the socket at a place has no room
+  abbrev pub is_full_at : ℕ → List (SocketOf N) → Bool
+  is_full_at place sockets = option_map_or is_queue_full (slice_get sockets place) false
+
+  -- the socket at a place has the datagram
   abbrev pub with_gram : ℕ → GramOf N → List (SocketOf N) → List (SocketOf N)
   with_gram place g sockets =
       option_map_or (λ s. slice_set sockets place (queued g s)) (slice_get sockets place) sockets
@@ -135,7 +143,11 @@ module _ {N : Type 0} where
   has_sent src sport dst dport s =
       is_ip src s.ip && is_port sport s.port && option_map_or (is_peer dst dport) s.peer false
 
-  -- its port is unreachable there: the error is pending
+  -- whether there is one
+  abbrev pub has_sender : Ip4 → ℕ → Ip4 → ℕ → List (SocketOf N) → Bool
+  has_sender src sport dst dport sockets = list_any (has_sent src sport dst dport) sockets
+
+  -- the port that it sent to is unreachable: its error is pending
   abbrev pub refused_by : Ip4 → ℕ → Ip4 → ℕ → List (SocketOf N) → List (SocketOf N)
   refused_by src sport dst dport sockets =
       map (λ s. if has_sent src sport dst dport s then record s { refused = true } else s) sockets

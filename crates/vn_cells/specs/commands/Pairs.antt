@@ -1,6 +1,5 @@
 -- epair(4) and ifconfig(8): pairs are made and destroyed, and get hardware addresses.
-use Rattle.std.specs.Prelude.{ℕ, ◌/◌, ◌%◌, Bool, false, ◌==◌, ◌||◌, not, nat_lt, List, [], ◌∷◌, ◌++◌, filter, slice_index, Option, Some, None}
-use Rattle.std.specs.List.{list_all}
+use Rattle.std.specs.Prelude.{ℕ, ◌/◌, ◌%◌, Bool, false, ◌==◌, ◌||◌, not, nat_lt, List, [], ◌∷◌, ◌++◌, filter, Option, Some, None}
 use Rattle.std.specs.Option.{is_none}
 use Rattle.vn_types.specs.declared.address.Mac.{Mac}
 use Rattle.vn_types.specs.declared.errno.Errno.TheVariants as errno
@@ -17,6 +16,7 @@ use Rattle.vn_rules.specs.declared.parts.PartsOf.{PartsOf}
 use Rattle.vn_rules.specs.LinkCommands.{half_alone}
 use Rattle.vn_rules.specs.Named.{is_lo0}
 use Rattle.vn_rules.specs.Purge.{purged}
+use Rattle.vn_rules.specs.Resolution.{is_no_station}
 use Rattle.vn_rules.specs.Rules.{Answer, Rule, done}
 use Rattle.vn_cells.specs.declared.world.End.{End}
 use Rattle.vn_cells.specs.declared.world.Pair.{Pair}
@@ -126,10 +126,6 @@ destruction p name w = record {
   refusals = half_alone (standing w p name);
   otherwise = done (destroyed_by (standing w p name) w);
 }
-
--- whether a hardware address is no half's: that of a group, or all octets 0 (RFC 894)
-abbrev pub is_no_station : Mac → Bool
-is_no_station mac = (slice_index mac.0 0 % 2 == 1) || list_all (λ octet. octet == 0) mac.0
 
 -- ether
 abbrev pub mac_setting : Path → IfName → Mac → World → Rule World

@@ -13,7 +13,8 @@ use Rattle.vn_rules.specs.Named.{is_lo0}
 use Rattle.vn_cells.specs.declared.cell.Cells.{Cells}
 use Rattle.vn_cells.specs.declared.world.World.{World}
 use Rattle.vn_cells.specs.world.Names.{Path, If}
-use Rattle.vn_cells.specs.commands.Pairs.{made_pair, destroyed_by, with_mac_on, any_making, making, destruction, mac_setting, is_no_station}
+use Rattle.vn_rules.specs.Resolution.{is_no_station}
+use Rattle.vn_cells.specs.commands.Pairs.{made_pair, destroyed_by, with_mac_on, any_making, making, destruction, mac_setting}
 use Rattle.vn_cells.specs.commands.Taken.{standing, lowest_free, units}
 use Rattle.vn_cells.specs.keeping.Sound.{IsSound}
 use Rattle.vn_cells.specs.sets.Sets.{in_stacks}
