@@ -1,4 +1,4 @@
--- Entries that are removed with their timers leave a stack sound, and so does the turn of an entry's timer.
+-- Entries that are set and removed by hand leave a stack sound, and so does the turn of an entry's timer.
 use Rattle.std.proofs.Common.{◌≡◌, ℕ, ◌+◌, Bool, true, false, cond, ◌||◌, ◌==◌, length, Option, Some, None, refl, sym, ap, ◌∙◌, arith}
 use Rattle.std.specs.Bool.{Decides}
 use Rattle.std.specs.Prelude.{nat_lt, nat_le, is_none, unwrap_or}
@@ -7,6 +7,7 @@ use Rattle.std.specs.Option.{option_map_or}
 use Rattle.std.proofs.lemmas.Bool.{and_parts, and_from, or_left, or_right, ltb-true, lt-ltb, le-leb}
 use Rattle.std.proofs.lemmas.List.Folds.{list_all-map}
 use Rattle.vn_types.specs.declared.address.Ip4.{Ip4}
+use Rattle.vn_types.specs.declared.address.Mac.{Mac}
 use Rattle.vn_types.specs.declared.interface.IfOf.TheVariants.{Half}
 use Rattle.vn_rules.specs.declared.arp.ArpEntryOf.{ArpEntryOf}
 use Rattle.vn_rules.specs.declared.arp.ArpState.{ArpState}
@@ -16,14 +17,15 @@ use Rattle.vn_rules.specs.declared.parts.PartsOf.{PartsOf}
 use Rattle.vn_rules.specs.Arp.{new_entry, without_entries, is_place, is_entry_at, entry_of, is_timer_at}
 use Rattle.vn_rules.specs.Interfaces.{is_among}
 use Rattle.vn_rules.specs.Orders.{is_right_in, are_arp_entries}
-use Rattle.vn_rules.specs.Resolution.{request_time, down_time, Ask, GivesUp, turn_in, turn_of, asked, given_up, turned, after_turn, after_arp_delete}
-use Rattle.vn_rules.specs.Routes.{covers}
+use Rattle.vn_rules.specs.Resolution.{request_time, down_time, Ask, GivesUp, turn_in, turn_of, asked, given_up, turned, after_turn, after_static, after_arp_set, after_arp_delete}
+use Rattle.vn_rules.specs.Routes.{covers, gateway_half}
 use Rattle.vn_rules.specs.Soundness.{timers_wanted, times_arp, times_arp_but, covers_arp, is_sound_parts, is_sound_but}
 use Rattle.vn_rules.proofs.ArpFacts.{has_but, own-apart}
-use Rattle.vn_rules.proofs.ArpKept.{absent-but, from_base, timed_entry-sound}
+use Rattle.vn_rules.proofs.ArpKept.{absent-but, after_static-sound, from_base, timed_entry-sound}
 use Rattle.vn_rules.proofs.ArpRemoval.{without_entries-facts, without_entries-sound}
 use Rattle.vn_rules.proofs.ArpPlaces.{place_from_test, base-place}
 use Rattle.vn_rules.proofs.ListTests.{absent-none, all_weaker, find_passes, find_all}
+use Rattle.vn_rules.proofs.RouteAdded.{gateway-own, gateway-covered}
 use Rattle.vn_rules.proofs.SoundFacts.{SoundFacts, facts_from_sound, sound_from_facts}
 
 module _ {N : Type 0} (same : N → N → Bool) (decides : (g h : N) → Decides (same g h) (g ≡ h)) (p : PartsOf N) where
@@ -33,6 +35,15 @@ module _ {N : Type 0} (same : N → N → Bool) (decides : (g h : N) → Decides
   pub after_arp_delete-sound : (ip : Ip4) → is_sound_parts same p ≡ true → is_sound_parts same (after_arp_delete ip p) ≡ true
   unfolding after_arp_delete
   after_arp_delete-sound ip sound = without_entries-sound same decides (λ half own. own.0 == ip.0) p sound
+
+  -- an entry that is set by hand, on the half beyond which the address lies
+  pub after_arp_set-sound : (ip : Ip4) (mac : Mac) → is_sound_parts same p ≡ true → is_sound_parts same (after_arp_set same ip mac p) ≡ true
+  unfolding after_arp_set
+  after_arp_set-sound ip mac sound = by (gateway_half ip p.routes) refl
+    where
+      by : (o : Option N) → gateway_half ip p.routes ≡ o → is_sound_parts same (option_map_or (λ half. after_static same half ip mac p) o p) ≡ true
+      by None is = sound
+      by (Some half) is = after_static-sound same decides half ip p sound (gateway-own same decides p sound ip half is) (gateway-covered same decides ip half p.routes is) mac
 
   -- ---- the turn of an entry's timer
 

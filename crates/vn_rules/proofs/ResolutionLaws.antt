@@ -5,21 +5,18 @@ use Rattle.std.specs.Option.{option_map, option_map_or}
 use Rattle.vn_types.specs.declared.address.Ip4.{Ip4}
 use Rattle.vn_types.specs.declared.address.Mac.{Mac}
 use Rattle.vn_types.specs.declared.errno.Errno.TheVariants as errno
-use Rattle.vn_types.specs.declared.interface.IfOf.{IfOf}
-use Rattle.vn_types.specs.Interfaces.{as_if}
 use Rattle.vn_types.proofs.ListMaps.{any_map_same}
-use Rattle.vn_rules.specs.declared.address.AddrOf.{AddrOf}
 use Rattle.vn_rules.specs.declared.arp.ArpEntryOf.{ArpEntryOf}
 use Rattle.vn_rules.specs.declared.arp.ArpState.TheVariants.{Learnt, Static}
 use Rattle.vn_rules.specs.declared.timer.TimerOf.TheVariants.{Arp}
 use Rattle.vn_rules.specs.declared.parts.PartsOf.{PartsOf}
-use Rattle.vn_rules.specs.Addresses.{is_half}
 use Rattle.vn_rules.specs.Arp.{is_static, holds_all, holding, with_mac, is_place, entry_of, with_entry}
-use Rattle.vn_rules.specs.Renamed.{as_addr, as_arp, renamed}
-use Rattle.vn_rules.specs.Resolution.{request_time, down_time, learnt_time, TurnOf, Ask, GivesUp, Removed, turn_of, asked, given_up, timed_entry, untimed, asks, drops_oldest, after_hold, merges, adds, released, after_input, turned, after_turn, after_static, is_no_station, static_refusals, after_arp_delete, arp_delete_refusals}
-use Rattle.vn_rules.proofs.AddressLaws.{is_half-renamed, local-renamed}
+use Rattle.vn_rules.specs.Renamed.{as_arp, renamed}
+use Rattle.vn_rules.specs.Routes.{gateway_half}
+use Rattle.vn_rules.specs.Resolution.{request_time, down_time, learnt_time, TurnOf, Ask, GivesUp, Removed, turn_of, asked, given_up, timed_entry, untimed, asks, drops_oldest, after_hold, merges, adds, released, after_input, turned, after_turn, after_static, after_arp_set, is_no_station, static_refusals, after_arp_delete, arp_delete_refusals}
+use Rattle.vn_rules.proofs.AddressLaws.{local-renamed}
 use Rattle.vn_rules.proofs.ArpLaws.{without_entries-renamed, is_place-renamed, entry_of-renamed, with_entry-renamed, without_timer_at-renamed, told-renamed, held_for-renamed}
-use Rattle.vn_rules.proofs.ListEdits.{option_map_or_same}
+use Rattle.vn_rules.proofs.RouteLaws.{gateway_half-renamed}
 use Rattle.vn_rules.proofs.TimerLaws.{after_arm-renamed}
 
 module _ {N M : Type 0} (r : N → M) (at_n : N → N → Bool) (at_m : M → M → Bool) (faithful : (a b : N) → at_m (r a) (r b) ≡ at_n a b) (half : N) (ip : Ip4) where
@@ -118,11 +115,29 @@ module _ {N M : Type 0} (r : N → M) (at_n : N → N → Bool) (at_m : M → M 
     timers = without_timer_at-renamed r at_n at_m faithful half ip p.timers i;
   }
 
+module _ {N M : Type 0} (r : N → M) (at_n : N → N → Bool) (at_m : M → M → Bool) (faithful : (a b : N) → at_m (r a) (r b) ≡ at_n a b) (ip : Ip4) (mac : Mac) where
+  beyond : (p : PartsOf N) → gateway_half ip (renamed r p).routes ≡ option_map r (gateway_half ip p.routes)
+  unfolding renamed
+  beyond p = gateway_half-renamed r ip p.routes
+
+  pub after_arp_set-renamed : (p : PartsOf N) → after_arp_set at_m ip mac (renamed r p) ≡ renamed r (after_arp_set at_n ip mac p)
+  unfolding after_arp_set
+  after_arp_set-renamed p = ap (λ o. option_map_or (λ half. after_static at_m half ip mac (renamed r p)) o (renamed r p)) (beyond p) ∙ by (gateway_half ip p.routes)
+    where
+      by : (o : Option N) → option_map_or (λ half. after_static at_m half ip mac (renamed r p)) (option_map r o) (renamed r p) ≡ renamed r (option_map_or (λ half. after_static at_n half ip mac p) o p)
+      by None = refl
+      by (Some half) = after_static-renamed r at_n at_m faithful half ip mac p
+
 module _ {N M : Type 0} (r : N → M) where
-  pub static_refusals-renamed : (ip : Ip4) (mac : Mac) (covering : Option (IfOf N)) (addresses : List (AddrOf N)) → static_refusals ip mac (option_map (as_if r) covering) (map (as_addr r) addresses) ≡ static_refusals ip mac covering addresses
-  static_refusals-renamed ip mac covering addresses =
-      ap₂ (λ own half. (is_no_station mac, errno.Inval) ∷ (own, errno.Exist) ∷ (not half, errno.NetUnreach) ∷ []) (local-renamed r ip addresses)
-      (option_map_or_same (as_if r) is_half is_half (is_half-renamed r) false covering)
+  pub static_refusals-renamed : (ip : Ip4) (mac : Mac) (p : PartsOf N) → static_refusals ip mac (renamed r p) ≡ static_refusals ip mac p
+  unfolding static_refusals renamed
+  static_refusals-renamed ip mac p =
+      ap₂ (λ own missing. (is_no_station mac, errno.Inval) ∷ (own, errno.Exist) ∷ (missing, errno.NetUnreach) ∷ []) (local-renamed r ip p.addresses)
+      (ap is_none (gateway_half-renamed r ip p.routes) ∙ by (gateway_half ip p.routes))
+    where
+      by : (o : Option N) → is_none (option_map r o) ≡ is_none o
+      by None = refl
+      by (Some half) = refl
 
   pub after_arp_delete-renamed : (ip : Ip4) (p : PartsOf N) → after_arp_delete ip (renamed r p) ≡ renamed r (after_arp_delete ip p)
   unfolding after_arp_delete

@@ -215,7 +215,7 @@ module _ {N : Type 0} (same : N → N → Bool) (decides : (a b : N) → Decides
 
   module _ (p : PartsOf N) (sound : is_sound_parts same p ≡ true) where
     -- the half of a gateway stands there
-    gateway-own : (via : Ip4) (half : N) → gateway_half via p.routes ≡ Some half → is_among same p.interfaces (Half half) ≡ true
+    pub gateway-own : (via : Ip4) (half : N) → gateway_half via p.routes ≡ Some half → is_among same p.interfaces (Half half) ≡ true
     unfolding covers
     gateway-own via half found = from_any (λ (e : Routed N). is_link_on same (Half half) e.1 && lies_in via e.0) (λ (e : Routed N). is_among same p.interfaces (target_if e.1)) (is_among same p.interfaces (Half half)) p.routes by
         (gateway-covered via half p.routes found) (named p sound).routes

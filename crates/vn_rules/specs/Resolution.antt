@@ -1,21 +1,20 @@
 -- How a neighbour's hardware address is asked for, learnt and forgotten (RFC 826, arp(4)).
-use Rattle.std.specs.Prelude.{ℕ, ◌+◌, ◌%◌, Bool, false, not, ◌&&◌, ◌||◌, ◌==◌, nat_lt, is_none, List, [], ◌∷◌, length, get_or, Option, if◌then◌else◌}
+use Rattle.std.specs.Prelude.{ℕ, ◌+◌, ◌%◌, Bool, false, not, ◌&&◌, ◌||◌, ◌==◌, nat_lt, is_none, List, [], ◌∷◌, length, get_or, if◌then◌else◌}
 use Rattle.std.specs.List.{list_any, list_all}
 use Rattle.std.specs.Option.{option_map_or}
 use Rattle.vn_types.specs.declared.address.Ip4.{Ip4}
 use Rattle.vn_types.specs.declared.address.Mac.{Mac}
 use Rattle.vn_types.specs.declared.errno.Errno.{Errno}
 use Rattle.vn_types.specs.declared.errno.Errno.TheVariants as errno
-use Rattle.vn_types.specs.declared.interface.IfOf.{IfOf}
-use Rattle.vn_rules.specs.declared.address.AddrOf.{AddrOf}
 use Rattle.vn_rules.specs.declared.arp.ArpEntryOf.{ArpEntryOf}
 use Rattle.vn_rules.specs.declared.arp.ArpState.{ArpState}
 use Rattle.vn_rules.specs.declared.arp.ArpState.TheVariants.{Incomplete, Learnt, Static, Down}
 use Rattle.vn_rules.specs.declared.arp.TheConstants.{REQUESTS_MAX}
 use Rattle.vn_rules.specs.declared.timer.TimerOf.TheVariants.{Arp}
 use Rattle.vn_rules.specs.declared.parts.PartsOf.{PartsOf}
-use Rattle.vn_rules.specs.Addresses.{is_half, local}
+use Rattle.vn_rules.specs.Addresses.{local}
 use Rattle.vn_rules.specs.Arp.{is_static, entry_of, holds_all, holding, with_mac, with_entry, is_place, without_timer_at, held_for, without_entries}
+use Rattle.vn_rules.specs.Routes.{gateway_half}
 use Rattle.vn_rules.specs.Timers.{after_arm}
 
 -- milliseconds from a request to the next
@@ -129,13 +128,18 @@ module _ {N : Type 0} (same : N → N → Bool) where
   after_static half ip mac p =
       record (untimed half ip p) { arp = with_entry same half ip (with_mac Static mac) p.arp }
 
+  -- on the half beyond which the address lies
+  unfoldable pub after_arp_set : Ip4 → Mac → PartsOf N → PartsOf N
+  after_arp_set ip mac p =
+      option_map_or (λ half. after_static half ip mac p) (gateway_half ip p.routes) p
+
 module _ {N : Type 0} where
-  -- why it is not: the interface of the longest interface route that covers the address is no half
-  abbrev pub static_refusals : Ip4 → Mac → Option (IfOf N) → List (AddrOf N) → List (Bool × Errno)
-  static_refusals ip mac covering addresses =
+  -- why it is not: the address is the stack's, or lies beyond no half
+  unfoldable pub static_refusals : Ip4 → Mac → PartsOf N → List (Bool × Errno)
+  static_refusals ip mac p =
       (is_no_station mac, errno.Inval)
-      ∷ (local ip addresses, errno.Exist)
-      ∷ (not (option_map_or is_half covering false), errno.NetUnreach)
+      ∷ (local ip p.addresses, errno.Exist)
+      ∷ (is_none (gateway_half ip p.routes), errno.NetUnreach)
       ∷ []
 
   -- the entries of an address are removed, on whatever half
