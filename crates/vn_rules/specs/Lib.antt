@@ -21,3 +21,5 @@ pub mod AddressCommands
 pub mod Scenes
 pub mod Named
 pub mod LinkCommands
+pub mod SocketCommands
+pub mod TableCommands
