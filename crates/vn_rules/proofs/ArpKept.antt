@@ -15,7 +15,7 @@ use Rattle.vn_rules.specs.declared.arp.ArpState.TheVariants.{Incomplete, Learnt,
 use Rattle.vn_rules.specs.declared.arp.TheConstants.{HELD_MAX, REQUESTS_MAX}
 use Rattle.vn_rules.specs.declared.timer.TimerOf.TheVariants.{Arp}
 use Rattle.vn_rules.specs.declared.parts.PartsOf.{PartsOf}
-use Rattle.vn_rules.specs.Arp.{newest, new_entry, known_mac, is_known, is_down_state, holding, with_mac, is_entry_at, entry_of, with_entry, hit, is_down}
+use Rattle.vn_rules.specs.Arp.{newest, new_entry, known_mac, is_known, is_down_state, holding, resolved, is_entry_at, entry_of, with_entry, hit, is_down}
 use Rattle.vn_rules.specs.Interfaces.{is_among}
 use Rattle.vn_rules.specs.Orders.{is_right_in, are_arp_entries}
 use Rattle.vn_rules.specs.Resolution.{request_time, learnt_time, timed_entry, untimed, after_hold, merges, adds, after_input, after_static}
@@ -77,15 +77,15 @@ module _ {N : Type 0} (same : N → N → Bool) (decides : (g h : N) → Decides
     unfolding after_input
     after_input-sound now mac is_target = by (merges same half ip p.arp || adds same half ip is_target p.arp)
       where
-        by : (b : Bool) → is_sound_parts same (cond b (timed_entry same (now + learnt_time) half ip (with_mac Learnt mac) (untimed same half ip p)) p) ≡ true
+        by : (b : Bool) → is_sound_parts same (cond b (timed_entry same (now + learnt_time) half ip (resolved Learnt mac) (untimed same half ip p)) p) ≡ true
         by true =
-            timed_entry-sound (untimed same half ip p) (with_mac Learnt mac) (base-place same decides half ip p.arp) refl among covered (untimed-sound same decides half ip p sound) refl (now + learnt_time)
+            timed_entry-sound (untimed same half ip p) (resolved Learnt mac) (base-place same decides half ip p.arp) refl among covered (untimed-sound same decides half ip p sound) refl (now + learnt_time)
         by false = sound
 
     pub after_static-sound : (mac : Mac) → is_sound_parts same (after_static same half ip mac p) ≡ true
     unfolding after_static
     after_static-sound mac =
-        untimed_entry-sound (untimed same half ip p) (with_mac Static mac) (base-place same decides half ip p.arp) refl among covered (untimed-sound same decides half ip p sound) refl
+        untimed_entry-sound (untimed same half ip p) (resolved Static mac) (base-place same decides half ip p.arp) refl among covered (untimed-sound same decides half ip p sound) refl
 
     -- a datagram is held for an address that is neither known nor down
     pub after_hold-sound : (now : ℕ) (octets : List ℕ) → hit same half ip p.arp ≡ None → is_down same half ip p.arp ≡ false → is_sound_parts same (after_hold same now half ip octets p) ≡ true

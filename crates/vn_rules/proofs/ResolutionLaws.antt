@@ -10,7 +10,7 @@ use Rattle.vn_rules.specs.declared.arp.ArpEntryOf.{ArpEntryOf}
 use Rattle.vn_rules.specs.declared.arp.ArpState.TheVariants.{Learnt, Static}
 use Rattle.vn_rules.specs.declared.timer.TimerOf.TheVariants.{Arp}
 use Rattle.vn_rules.specs.declared.parts.PartsOf.{PartsOf}
-use Rattle.vn_rules.specs.Arp.{is_static, holds_all, holding, with_mac, is_place, entry_of, with_entry}
+use Rattle.vn_rules.specs.Arp.{is_static, holds_all, holding, resolved, is_place, entry_of, with_entry}
 use Rattle.vn_rules.specs.Renamed.{as_arp, renamed}
 use Rattle.vn_rules.specs.Routes.{gateway_half}
 use Rattle.vn_rules.specs.Resolution.{request_time, down_time, learnt_time, TurnOf, Ask, GivesUp, Removed, turn_of, asked, given_up, timed_entry, untimed, asks, drops_oldest, after_hold, merges, adds, released, after_input, turned, after_turn, after_static, after_arp_set, is_no_station, static_refusals, after_arp_delete, arp_delete_refusals}
@@ -81,9 +81,9 @@ module _ {N M : Type 0} (r : N → M) (at_n : N → N → Bool) (at_m : M → M 
   pub after_input-renamed : (now : ℕ) (mac : Mac) (is_target : Bool) (p : PartsOf N) → after_input at_m now (r half) ip mac is_target (renamed r p) ≡ renamed r (after_input at_n now half ip mac is_target p)
   unfolding after_input
   after_input-renamed now mac is_target p =
-      ap (λ b. cond b (timed_entry at_m (now + learnt_time) (r half) ip (with_mac Learnt mac) (untimed at_m (r half) ip (renamed r p))) (renamed r p)) (told is_target p)
+      ap (λ b. cond b (timed_entry at_m (now + learnt_time) (r half) ip (resolved Learnt mac) (untimed at_m (r half) ip (renamed r p))) (renamed r p)) (told is_target p)
       ∙ branch (merges at_n half ip p.arp || adds at_n half ip is_target p.arp) _ _
-      (ap (timed_entry at_m (now + learnt_time) (r half) ip (with_mac Learnt mac)) (untimed-renamed p) ∙ timed_entry-renamed (with_mac Learnt mac) (with_mac Learnt mac) (λ e. refl) (now + learnt_time) (untimed at_n half ip p))
+      (ap (timed_entry at_m (now + learnt_time) (r half) ip (resolved Learnt mac)) (untimed-renamed p) ∙ timed_entry-renamed (resolved Learnt mac) (resolved Learnt mac) (λ e. refl) (now + learnt_time) (untimed at_n half ip p))
       refl
 
   -- ---- an entry's timer
@@ -111,7 +111,7 @@ module _ {N M : Type 0} (r : N → M) (at_n : N → N → Bool) (at_m : M → M 
   pub after_static-renamed : (mac : Mac) (p : PartsOf N) → after_static at_m (r half) ip mac (renamed r p) ≡ renamed r (after_static at_n half ip mac p)
   unfolding after_static renamed
   after_static-renamed mac p i = record (renamed r p) {
-    arp = with_entry-renamed r at_n at_m faithful half ip (with_mac Static mac) (with_mac Static mac) (λ e. refl) p.arp i;
+    arp = with_entry-renamed r at_n at_m faithful half ip (resolved Static mac) (resolved Static mac) (λ e. refl) p.arp i;
     timers = without_timer_at-renamed r at_n at_m faithful half ip p.timers i;
   }
 

@@ -60,8 +60,8 @@ module _ {N : Type 0} where
   holding octets e = record e { held = newest HELD_MAX (e.held ++ octets ∷ []) }
 
   -- the hardware address is known now, and nothing is held any more
-  abbrev pub with_mac : ArpState → Mac → ArpEntryOf N → ArpEntryOf N
-  with_mac state mac e = record e { state = state; mac = Some mac; requests = 0; held = [] }
+  abbrev pub resolved : ArpState → Mac → ArpEntryOf N → ArpEntryOf N
+  resolved state mac e = record e { state = state; mac = Some mac; requests = 0; held = [] }
 
 -- ---- by a test on halves and addresses
 

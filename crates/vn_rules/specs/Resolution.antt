@@ -13,7 +13,7 @@ use Rattle.vn_rules.specs.declared.arp.TheConstants.{REQUESTS_MAX}
 use Rattle.vn_rules.specs.declared.timer.TimerOf.TheVariants.{Arp}
 use Rattle.vn_rules.specs.declared.parts.PartsOf.{PartsOf}
 use Rattle.vn_rules.specs.Addresses.{local}
-use Rattle.vn_rules.specs.Arp.{is_static, entry_of, holds_all, holding, with_mac, with_entry, is_place, without_timer_at, held_for, without_entries}
+use Rattle.vn_rules.specs.Arp.{is_static, entry_of, holds_all, holding, resolved, with_entry, is_place, without_timer_at, held_for, without_entries}
 use Rattle.vn_rules.specs.Routes.{gateway_half}
 use Rattle.vn_rules.specs.Timers.{after_arm}
 
@@ -50,6 +50,7 @@ turn_in Static requests held = Removed
 turn_in Down requests held = Removed
 
 module _ {N : Type 0} where
+  -- what is done to an entry
   abbrev pub turn_of : ArpEntryOf N → TurnOf
   turn_of e = turn_in e.state e.requests (length e.held)
 
@@ -62,7 +63,7 @@ module _ {N : Type 0} where
   given_up e = record e { state = Down; requests = 0; held = [] }
 
 module _ {N : Type 0} (same : N → N → Bool) where
-  -- the entry of an address on a half is changed, or made, and its timer armed for so many milliseconds
+  -- the entry of an address on a half is changed, or made, and its timer armed for the deadline
   abbrev pub timed_entry : ℕ → N → Ip4 → (ArpEntryOf N → ArpEntryOf N) → PartsOf N → PartsOf N
   timed_entry deadline half ip f p =
       record p { arp = with_entry same half ip f p.arp; timers = after_arm deadline (Arp half ip) p.timers }
@@ -94,7 +95,7 @@ module _ {N : Type 0} (same : N → N → Bool) where
   merges half ip entries =
       option_map_or (λ (e : ArpEntryOf N). not (is_static e.state)) (entry_of same half ip entries) false
 
-  -- whether the sender, which asks for an address of the half, has an entry from now on
+  -- whether the sender has an entry from now on: it had none, and the target is an address of the half
   abbrev pub adds : N → Ip4 → Bool → List (ArpEntryOf N) → Bool
   adds half ip is_target entries = is_target && is_none (entry_of same half ip entries)
 
@@ -106,7 +107,7 @@ module _ {N : Type 0} (same : N → N → Bool) where
   unfoldable pub after_input : ℕ → N → Ip4 → Mac → Bool → PartsOf N → PartsOf N
   after_input now half ip mac is_target p =
       if merges half ip p.arp || adds half ip is_target p.arp
-      then timed_entry (now + learnt_time) half ip (with_mac Learnt mac) (untimed half ip p)
+      then timed_entry (now + learnt_time) half ip (resolved Learnt mac) (untimed half ip p)
       else p
 
   -- ---- an entry's timer, which was taken out
@@ -117,6 +118,7 @@ module _ {N : Type 0} (same : N → N → Bool) where
   turned now half ip p (GivesUp held) = timed_entry (now + down_time) half ip given_up p
   turned now half ip p Removed = without_entries (is_place same half ip) p
 
+  -- by the entry that is there
   unfoldable pub after_turn : ℕ → N → Ip4 → PartsOf N → PartsOf N
   after_turn now half ip p =
       option_map_or (λ (e : ArpEntryOf N). turned now half ip p (turn_of e)) (entry_of same half ip p.arp) p
@@ -126,7 +128,7 @@ module _ {N : Type 0} (same : N → N → Bool) where
   -- the hardware address of the address on the half is set
   unfoldable pub after_static : N → Ip4 → Mac → PartsOf N → PartsOf N
   after_static half ip mac p =
-      record (untimed half ip p) { arp = with_entry same half ip (with_mac Static mac) p.arp }
+      record (untimed half ip p) { arp = with_entry same half ip (resolved Static mac) p.arp }
 
   -- on the half beyond which the address lies
   unfoldable pub after_arp_set : Ip4 → Mac → PartsOf N → PartsOf N

@@ -120,6 +120,7 @@ module _ {N : Type 0} (same : N → N → Bool) where
       has_distinct_entries p.arp && times p && covers_arp p && founds_routes p && gave_arms p
       && has_distinct_arms p.pings.awaited
 
+  -- where each ARP entry has its own timer
   abbrev pub keeps_tables : PartsOf N → Bool
   keeps_tables p = keeps_tables_by times_arp p
 
