@@ -6,6 +6,7 @@ use Rattle.std.proofs.lemmas.Bool.{or_left, both_ways, not-false, false_from_ne_
 use Rattle.std.proofs.lemmas.List.{map-append}
 use Rattle.std.proofs.lemmas.List.Folds.{list_any-append}
 use Rattle.vn_types.specs.declared.interface.IfOf.{IfOf}
+use Rattle.vn_types.specs.declared.interface.IfOf.TheVariants.{Half}
 use Rattle.vn_types.specs.Interfaces.{if_same, as_if}
 use Rattle.vn_types.proofs.InterfaceNames.{if_same-as_if, if_same-Decides}
 use Rattle.vn_types.proofs.ListMaps.{filter_map_same}
@@ -15,6 +16,8 @@ use Rattle.vn_rules.specs.Soundness.{binds_locally, sends_locally, owns_timers, 
 use Rattle.vn_rules.proofs.Kept.{IsIn, all_in, any_filter}
 use Rattle.vn_rules.proofs.ListTests.{all_weaker}
 use Rattle.vn_rules.proofs.Named.{names_parts, names_from, own_names, of_addresses, of_routes, of_arp, of_pings, of_grams}
+use Rattle.vn_rules.specs.Purge.{purged}
+use Rattle.vn_rules.proofs.Purged.{purged-forgotten, purged-sound}
 use Rattle.vn_rules.proofs.SoundFacts.{facts_from_sound, sound_from_facts}
 
 -- ---- under other names of halves
@@ -93,3 +96,8 @@ module _ {N : Type 0} (same : N → N → Bool) (p : PartsOf N) where
 
         by : (i : IfOf N) → IsIn i (named_ifs p) → is_among same p.interfaces i ≡ true → is_among same (without_interface same on p.interfaces) i ≡ true
         by i is own = any_filter (if_same same i) (λ own. not (if_same same own on)) p.interfaces (apart i is) ∙ own
+
+-- a half that leaves: it is purged, and none of the interfaces
+pub purged_out-sound : {N : Type 0} (same : N → N → Bool) (decides : (a b : N) → Decides (same a b) (a ≡ b)) (h : N) (p : PartsOf N) → is_sound_parts same p ≡ true
+    → is_sound_parts same (record (purged same h p) { interfaces = without_interface same (Half h) (purged same h p).interfaces }) ≡ true
+purged_out-sound same decides h p sound = without_interface-sound same (purged same h p) decides (Half h) (purged-forgotten same h p decides) (purged-sound same h p decides sound)

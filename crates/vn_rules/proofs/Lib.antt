@@ -44,3 +44,5 @@ pub mod AddressAdded
 pub mod PingLaws
 pub mod PingAwaited
 pub mod NamedHalves
+pub mod RuleLaws
+pub mod CommandLaws

@@ -16,7 +16,7 @@ use Rattle.vn_types.proofs.ListMaps.{filter_map_same}
 use Rattle.vn_rules.specs.declared.route.TargetOf.{TargetOf}
 use Rattle.vn_rules.specs.declared.route.TargetOf.TheVariants.{Link, Gateway}
 use Rattle.vn_rules.specs.Renamed.{as_target, as_routed}
-use Rattle.vn_rules.specs.Routes.{Routed, prefix_cmp, target_if, is_link, is_link_on, route_at, covers_ip, longer, longest, longest_among, lookup, covering_link, half_in, gateway_half, gateway_refusal, with_gateway, after_gateway, has_gateway, delete_refusal, after_delete, after_link, can_link}
+use Rattle.vn_rules.specs.Routes.{Routed, prefix_cmp, target_if, is_link, is_link_on, route_at, covers_ip, longer, longest, longest_among, lookup, covering_link, half_in, gateway_half, gateway_refusals, gateway_refusal, with_gateway, after_gateway, has_gateway, delete_refusals, delete_refusal, after_delete, after_link, can_link}
 use Rattle.vn_rules.proofs.EntryMaps.{insert_entry-mapped, remove_entry-mapped}
 use Rattle.vn_rules.proofs.Renaming.{target_if-renamed}
 
@@ -74,14 +74,17 @@ module _ {N M : Type 0} (r : N → M) where
   some-mapped f None = refl
   some-mapped f (Some x) = refl
 
-  pub gateway_refusal-renamed : (to : Prefix) (via : Ip4) (rs : List (Routed N)) → gateway_refusal to via (renames rs) ≡ gateway_refusal to via rs
-  gateway_refusal-renamed to via rs =
-      ap₂ (λ b c. first_refusal ((b, Exist) ∷ (c, NetUnreach) ∷ [])) (ap is_some (route_at-renamed to rs) ∙ some-mapped (as_target r) (route_at to rs))
+  pub gateway_refusals-renamed : (to : Prefix) (via : Ip4) (rs : List (Routed N)) → gateway_refusals to via (renames rs) ≡ gateway_refusals to via rs
+  gateway_refusals-renamed to via rs =
+      ap₂ (λ b c. (b, Exist) ∷ (c, NetUnreach) ∷ []) (ap is_some (route_at-renamed to rs) ∙ some-mapped (as_target r) (route_at to rs))
       (ap is_none (gateway_half-renamed via rs) ∙ by (gateway_half via rs))
     where
       by : (o : Option N) → is_none (option_map r o) ≡ is_none o
       by None = refl
       by (Some h) = refl
+
+  pub gateway_refusal-renamed : (to : Prefix) (via : Ip4) (rs : List (Routed N)) → gateway_refusal to via (renames rs) ≡ gateway_refusal to via rs
+  gateway_refusal-renamed to via rs = ap first_refusal (gateway_refusals-renamed to via rs)
 
   pub after_gateway-renamed : (to : Prefix) (via : Ip4) (rs : List (Routed N)) → after_gateway to via (renames rs) ≡ renames (after_gateway to via rs)
   after_gateway-renamed to via rs = ap (λ o. with_gateway to via o (renames rs)) (gateway_half-renamed via rs) ∙ by (gateway_half via rs)
@@ -97,8 +100,11 @@ module _ {N M : Type 0} (r : N → M) where
       by None = refl
       by (Some t) = ap not (is_link-renamed t)
 
+  pub delete_refusals-renamed : (to : Prefix) (rs : List (Routed N)) → delete_refusals to (renames rs) ≡ delete_refusals to rs
+  delete_refusals-renamed to rs = ap (λ b. (not b, Srch) ∷ []) (has_gateway-renamed to rs)
+
   pub delete_refusal-renamed : (to : Prefix) (rs : List (Routed N)) → delete_refusal to (renames rs) ≡ delete_refusal to rs
-  delete_refusal-renamed to rs = ap (λ b. first_refusal ((not b, Srch) ∷ [])) (has_gateway-renamed to rs)
+  delete_refusal-renamed to rs = ap first_refusal (delete_refusals-renamed to rs)
 
   pub after_delete-renamed : (to : Prefix) (rs : List (Routed N)) → after_delete to (renames rs) ≡ renames (after_delete to rs)
   after_delete-renamed to rs = remove_entry-mapped (as_target r) (is_at (prefix_cmp to)) rs

@@ -18,6 +18,7 @@ pub mod Rules
 pub mod Errors
 pub mod Purge
 pub mod AddressCommands
+pub mod RouteCommands
 pub mod Scenes
 pub mod Named
 pub mod LinkCommands

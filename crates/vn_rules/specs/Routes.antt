@@ -97,10 +97,13 @@ module _ {N : Type 0} where
   gateway_half via routes = half_in (covering_link via routes)
 
   -- why a gateway route is not added: there is a route to the prefix, or the gateway lies beyond no half
+  abbrev pub gateway_refusals : Prefix → Ip4 → List (Routed N) → List (Bool × Errno)
+  gateway_refusals to via routes =
+      (is_some (route_at to routes), Exist) ∷ (is_none (gateway_half via routes), NetUnreach) ∷ []
+
+  -- the first that applies
   abbrev pub gateway_refusal : Prefix → Ip4 → List (Routed N) → Option Errno
-  gateway_refusal to via routes =
-      first_refusal
-      ((is_some (route_at to routes), Exist) ∷ (is_none (gateway_half via routes), NetUnreach) ∷ [])
+  gateway_refusal to via routes = first_refusal (gateway_refusals to via routes)
 
   -- with the route by the gateway beyond that half
   abbrev pub with_gateway : Prefix → Ip4 → Option N → List (Routed N) → List (Routed N)
@@ -117,8 +120,12 @@ module _ {N : Type 0} where
   has_gateway to routes = option_map_or (λ t. not (is_link t)) (route_at to routes) false
 
   -- why a route is not deleted: interface routes go with their addresses alone
+  abbrev pub delete_refusals : Prefix → List (Routed N) → List (Bool × Errno)
+  delete_refusals to routes = (not (has_gateway to routes), Srch) ∷ []
+
+  -- the first that applies
   abbrev pub delete_refusal : Prefix → List (Routed N) → Option Errno
-  delete_refusal to routes = first_refusal ((not (has_gateway to routes), Srch) ∷ [])
+  delete_refusal to routes = first_refusal (delete_refusals to routes)
 
   -- without the route to the prefix
   abbrev pub after_delete : Prefix → List (Routed N) → List (Routed N)
