@@ -21,7 +21,7 @@ use Rattle.vn_cells.specs.sets.Changed.{touches, is_common, is_kept, is_closed_a
 use Rattle.vn_cells.specs.sets.Isolation.{SameCell, IsIsolated}
 use Rattle.vn_laws.specs.Relations.{Alike, Belongs, owns_ifs}
 use Rattle.vn_laws.proofs.Touched.{stack_stays, pair_stays}
-use Rattle.vn_laws.proofs.Commands.{IsNew}
+use Rattle.vn_laws.proofs.edits.Lived.{IsNew}
 use Rattle.vn_laws.proofs.Steps.{fine-step, clock-step, belongs-step, Decided, alike-step, lived-step, born_told}
 use Rattle.vn_laws.proofs.Opening.{sound-opening, belongs-opening}
 
@@ -88,7 +88,7 @@ isolated_from {set} {v} {w} a b c sv sw (event ∷ events) valid closed =
         (run_from w (if k then event ∷ project_from set (step v event) events else project_from set (step v event) events))
     by true k ok closed more =
         let e = kept set v event k closed in
-        more (step w event) (alike-step a b sv sw event e.inside) (belongs-step b sv event e.decided)
+        more (step w event) (alike-step a b c sv sw event ok e.inside) (belongs-step b sv event e.decided)
         (belongs-step c sw event e.decided) (fine-step sw event ok).sound
     by false out ok closed more =
         let parts = or_parts (is_common event) (touches set v event) (left_out out) in

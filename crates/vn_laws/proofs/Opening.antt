@@ -17,7 +17,7 @@ use Rattle.vn_types.specs.Entries.{find}
 use Rattle.vn_cells.specs.world.World.{no_stack, stack_at, pair_at, is_alive, ifs_of}
 use Rattle.vn_cells.specs.commands.Jails.{construct}
 use Rattle.vn_cells.specs.machine.Step.{opening}
-use Rattle.vn_cells.specs.keeping.Standing.{IsStanding, is_placed, stands_at, times, times_listed, passes}
+use Rattle.vn_cells.specs.keeping.Standing.{IsStanding, is_placed, stands_at, times, times_listed, passes, has_queues}
 use Rattle.vn_cells.specs.keeping.Sound.{IsSound, IsTree, living_below, counts_right}
 use Rattle.vn_laws.specs.Relations.{Belongs, owns_ifs}
 use Rattle.vn_rules.proofs.Constructed.{constructed_parts-sound}
@@ -70,6 +70,7 @@ standing-opening = record {
   places = λ k side. ap (is_placed opening k side) (opening_pairs k);
   listed = listed_opening;
   tables = λ p. ap (λ (s : Stack). passes (is_sound_parts half_eq) s.live) (opening_stack p) ∙ by (is_host p);
+  queues = λ k. ap has_queues (opening_pairs k);
   pairs_ordered = tt;
 }
   where

@@ -23,7 +23,7 @@ use Rattle.vn_cells.specs.declared.world.Live.{Live}
 use Rattle.vn_cells.specs.declared.world.Pair.{Pair}
 use Rattle.vn_cells.specs.declared.world.Stack.{Stack}
 use Rattle.vn_cells.specs.declared.world.World.{World}
-use Rattle.vn_cells.specs.world.Names.{Path, Key, path_eq, above, half_eq, half_on, has_half, halves_of}
+use Rattle.vn_cells.specs.world.Names.{Path, Key, path_eq, above, half_eq, half_name, half_on, has_half, halves_of}
 use Rattle.vn_cells.specs.world.World.{stack_at, pair_at, is_alive, ifs_in, common_of, entry_of, live_map, edit_stack}
 use Rattle.vn_cells.specs.machine.Reach.{Reach, Near, MakesJail, reach}
 use Rattle.vn_cells.specs.commands.Jails.{one_more_below, recount_above, created}
@@ -74,7 +74,7 @@ then_entry p f g h scene v w c e = record {
 
 abbrev heard_near : World → ℕ → Path → Command → Live → Answer (SceneOf Half)
 heard_near w lane p command live =
-    answer (scene_in w live.parts) (near_rule half_eq (common_of w) command (scene_in w live.parts))
+    answer (scene_in w live.parts) (near_rule half_eq half_name (common_of w) command (scene_in w live.parts))
 
 pub near-answers : (w : World) (lane : ℕ) (p : Path) (command : Command) (live : Live) → reach p command ≡ Near
     → (stack_at w p).live ≡ Some live
@@ -118,14 +118,18 @@ refused-adds w lane p command code e = by (is_alive w p) e
       pairs = λ k. pair_at-edit_stack p _ w k;
     }
 
+    far_adds : (r : Reach) → first_refusal (far_rule (common_of w) p r w).refusals ≡ Some code
+        → AddsEntry p (entry_of w.clock (what.Cmd lane command (outcome.Refused code))) w
+        (entered w.clock lane p command (answer w (far_rule (common_of w) p r w)))
+    far_adds r f =
+        subst (λ o. AddsEntry p (entry_of w.clock (what.Cmd lane command (outcome.Refused code))) w
+        (entered w.clock lane p command (answer_by o w (far_rule (common_of w) p r w).otherwise)))
+        (sym f) (entry code)
+
     far : (r : Reach) → first_refusal (far_rule (common_of w) p r w).refusals ≡ Some code
         → AddsEntry p (entry_of w.clock (what.Cmd lane command (outcome.Refused code))) w (ran_by lane p command r w)
     far Near f = cc
-    far (MakesJail q limit) f =
-        subst (λ o. AddsEntry p (entry_of w.clock (what.Cmd lane command (outcome.Refused code))) w
-        (entered w.clock lane p command (answer_by o w (far_rule (common_of w) p (MakesJail q limit) w).otherwise)))
-        (sym f) (entry code)
-    far _ f = cc
+    far r f = far_adds r f
 
     by : (b : Bool) → (if b then first_refusal (far_rule (common_of w) p (reach p command) w).refusals else Some errno.NoEnt) ≡ Some code
         → AddsEntry p (entry_of w.clock (what.Cmd lane command (outcome.Refused code))) w

@@ -21,7 +21,7 @@ use Rattle.vn_cells.specs.declared.world.Stack.{Stack}
 use Rattle.vn_cells.specs.declared.world.World.{World}
 use Rattle.vn_cells.specs.world.Names.{Path, path_eq, is_host, is_below}
 use Rattle.vn_cells.specs.world.World.{common_of, stack_at, is_alive}
-use Rattle.vn_cells.specs.machine.Events.{is_valid_event}
+use Rattle.vn_cells.specs.machine.Events.{is_at_path, is_valid_command, is_valid_event}
 use Rattle.vn_cells.specs.machine.Reach.{Reach, Near, reach}
 use Rattle.vn_cells.specs.machine.Commands.{near_rule, far_rule}
 use Rattle.vn_cells.specs.machine.Local.{Here, local, near_answer, act}
@@ -42,15 +42,12 @@ use Rattle.vn_laws.proofs.local.Alike.{alike-local}
 use Rattle.vn_laws.proofs.rule.Answers.{answered, shape-entered, reached, either_way, commanded-keeps}
 use Rattle.vn_laws.proofs.rule.Alike.{AlikeRules, alike-answered}
 use Rattle.vn_laws.proofs.jails.Alike.{alive_alike}
-use Rattle.vn_laws.proofs.Commands.{Fine, fine-far, belongs-far, alike-far, issuer_inside, IsNew, Lived, lived-same, lived-far, clock-far}
+use Rattle.vn_laws.proofs.local.Near.{near-tables}
+use Rattle.vn_laws.proofs.Commands.{Fits, fits, fine-far, belongs-far, alike-far, issuer_inside, lived-far, goes-far}
+use Rattle.vn_laws.proofs.edits.Fine.{Fine, fine-none, fine-shape}
+use Rattle.vn_laws.proofs.edits.Lived.{IsNew, Lived, lived-same}
 
 -- ---- the machine's own rule keeps tables sound
-
-near-tables : (common : Common) (command : Command) (o : Option (SceneOf Half)) → sound_scene o ≡ true
-    → sound_after o (near_answer common command o).left ≡ true
-unfolding near_answer near_rule answer_by
-near-tables common command None e = refl
-near-tables common command (Some scene) e = e
 
 same-tables : (o : Option (SceneOf Half)) → sound_scene o ≡ true → sound_after o o ≡ true
 same-tables None e = refl
@@ -75,27 +72,21 @@ pub record StepFine (v w : World) : Type 0 where
 by_leaves : {v w : World} → Fine v w → StepFine v w
 by_leaves f = record { sound = f.sound; nothing = leaves_nothing f.leaves }
 
-fine-shape : {u v w : World} → Fine u v → SameShape v w → Fine u w
-fine-shape f t = record { sound = sound-shape f.sound t; leaves = leaves-then f.leaves (leaves-shape t) }
-
 fine-act : {v : World} → IsSound v → (p : Path) (event : Event) → StepFine v (act v p event)
 fine-act {v} s p event = record {
   sound = sound-act_by tables-local s p event;
   nothing = leaves_nothing-same (standing-act_by local v p event).pairs;
 }
 
-fine-none : {v : World} → IsSound v → Fine v v
-fine-none {v} s = record { sound = s; leaves = leaves-none v }
-
 pub fine-step : {v : World} → IsSound v → (event : Event) → is_valid_event event ≡ true → StepFine v (step v event)
-unfolding step
+unfolding step is_valid_event
 fine-step {v} s (event.Cmd lane issuer command) valid =
     either_way (StepFine v) lane issuer command v
     (λ lives. reached (StepFine v) lane issuer command (reach issuer command) v
     (fine-act s issuer (event.Cmd lane issuer command))
     (by_leaves (fine-shape
     (answered (Fine v) (far_rule (common_of v) issuer (reach issuer command) v) (fine-none s)
-    (fine-far s (common_of v) issuer (reach issuer command)))
+    (fine-far s (common_of v) issuer lives (reach issuer command) (fits issuer command (and_parts (is_at_path lane issuer) (is_valid_command issuer command) valid).1)))
     (shape-entered v.clock lane issuer command _))))
     (by_leaves (fine-shape (fine-none s) (shape-entered v.clock lane issuer command (refused errno.NoEnt v))))
 fine-step s _ valid = by_leaves (fine-none s)
@@ -108,7 +99,7 @@ clock-step v (event.Cmd lane issuer command) own =
     commanded-keeps (λ w. w.clock ≡ v.clock) lane issuer command v refl
     (λ a e. clock-edit_stack issuer _ _ ∙ e)
     (clock-act_by local v issuer (event.Cmd lane issuer command))
-    (λ none. clock-far (common_of v) issuer (reach issuer command) v)
+    (λ none. (goes-far (common_of v) issuer (reach issuer command) v).clock)
 clock-step v _ own = refl
 
 -- ---- a set
@@ -130,14 +121,14 @@ belongs-step b s _ all = b
 
 -- ---- two worlds
 
-module _ {set : Cells} {v w : World} (a : Alike set v w) (b : Belongs set v) (sv : IsSound v) (sw : IsSound w) where
-  alike-ran_by : (lane : ℕ) (issuer : Path) (command : Command) (r : Reach)
+module _ {set : Cells} {v w : World} (a : Alike set v w) (b : Belongs set v) (c : Belongs set w) (sv : IsSound v) (sw : IsSound w) where
+  alike-ran_by : (lane : ℕ) (issuer : Path) (command : Command) (r : Reach) → Fits issuer r
       → list_all (in_set set) (command_deciders issuer r) ≡ true
       → Alike set (ran_by lane issuer command r v) (ran_by lane issuer command r w)
   unfolding ran_by command_deciders in_set
-  alike-ran_by lane issuer command Near all =
+  alike-ran_by lane issuer command Near fit all =
       alike-local a local b issuer (event.Cmd lane issuer command) (and_parts _ true all).0
-  alike-ran_by lane issuer command r all = entered_alike r (alike-far a sv sw (common_of v) issuer r all)
+  alike-ran_by lane issuer command r fit all = entered_alike r (alike-far a b c sv sw (common_of v) issuer r fit all)
     where
       entered_alike : (r : Reach) → AlikeRules set (far_rule (common_of v) issuer r v) (far_rule (common_of v) issuer r w)
           → Alike set (entered v.clock lane issuer command (answer v (far_rule (common_of v) issuer r v)))
@@ -147,11 +138,11 @@ module _ {set : Cells} {v w : World} (a : Alike set v w) (b : Belongs set v) (sv
           (entered c lane issuer command (answer w (far_rule (record { clock = c }) issuer r w)))) a.clock
           (alike-answered a v.clock lane issuer command _ _ same)
 
-  alike-commanded : (lane : ℕ) (issuer : Path) (command : Command)
+  alike-commanded : (lane : ℕ) (issuer : Path) (command : Command) → is_valid_command issuer command ≡ true
       → list_all (in_set set) (command_deciders issuer (reach issuer command)) ≡ true
       → Alike set (commanded lane issuer command v) (commanded lane issuer command w)
   unfolding commanded
-  alike-commanded lane issuer command all =
+  alike-commanded lane issuer command valid all =
       subst (λ l. Alike set (commanded lane issuer command v)
       (if l then ran_by lane issuer command (reach issuer command) w else entered w.clock lane issuer command (refused errno.NoEnt w)))
       (alive_alike a sv sw issuer (issuer_inside set issuer (reach issuer command) all))
@@ -164,13 +155,15 @@ module _ {set : Cells} {v w : World} (a : Alike set v w) (b : Belongs set v) (sv
       by : (l : Bool)
           → Alike set (if l then ran_by lane issuer command (reach issuer command) v else entered v.clock lane issuer command (refused errno.NoEnt v))
           (if l then ran_by lane issuer command (reach issuer command) w else entered w.clock lane issuer command (refused errno.NoEnt w))
-      by true = alike-ran_by lane issuer command (reach issuer command) all
+      by true = alike-ran_by lane issuer command (reach issuer command) (fits issuer command valid) all
       by false = dead
 
-  pub alike-step : (event : Event) → list_all (in_set set) (deciders v event) ≡ true → Alike set (step v event) (step w event)
-  unfolding step deciders
-  alike-step (event.Cmd lane issuer command) all = alike-commanded lane issuer command all
-  alike-step _ all = a
+  pub alike-step : (event : Event) → is_valid_event event ≡ true → list_all (in_set set) (deciders v event) ≡ true
+      → Alike set (step v event) (step w event)
+  unfolding step deciders is_valid_event
+  alike-step (event.Cmd lane issuer command) valid all =
+      alike-commanded lane issuer command (and_parts (is_at_path lane issuer) (is_valid_command issuer command) valid).1 all
+  alike-step _ valid all = a
 
 -- ---- who is new
 

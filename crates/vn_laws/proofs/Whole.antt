@@ -24,7 +24,7 @@ use Rattle.vn_laws.specs.Locality.{writes_in}
 use Rattle.vn_laws.proofs.edits.Cells.{own_edit}
 use Rattle.vn_laws.proofs.local.Placed.{placed_stack}
 use Rattle.vn_laws.proofs.rule.Answers.{answered, reached, either_way}
-use Rattle.vn_laws.proofs.Commands.{told-far}
+use Rattle.vn_laws.proofs.Commands.{goes-far}
 use Rattle.vn_laws.proofs.Touched.{touched}
 
 -- how many entries a path's transcript has
@@ -65,7 +65,7 @@ command-longer p lane command w =
     (λ lives. reached (λ v. told_at p w + 1 ≤ told_at p v) lane p command (reach p command) w (act-longer p lane command w)
     (entered-longer p lane command w w.clock _
     (answered (λ v. told_at p w ≤ told_at p v) (far_rule (common_of w) p (reach p command) w) (omega arith)
-    (λ none. told-far (common_of w) p (reach p command) w p))))
+    (λ none. (goes-far (common_of w) p (reach p command) w).told p))))
     (entered-longer p lane command w w.clock (refused errno.NoEnt w) (omega arith))
 
 -- a command in a stack of the set touches the set

@@ -1,4 +1,5 @@
 -- The events that act in one stack.
 pub mod Placed
 pub mod Acted
+pub mod Near
 pub mod Alike

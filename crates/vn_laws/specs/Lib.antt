@@ -1,3 +1,4 @@
 pub mod Relations
 pub mod Locality
+pub mod Units
 pub mod WorkedRows

@@ -18,7 +18,7 @@ use Rattle.vn_cells.specs.declared.transcript.What.TheVariants as what
 use Rattle.vn_cells.specs.declared.world.Live.{Live}
 use Rattle.vn_cells.specs.declared.world.Stack.{Stack}
 use Rattle.vn_cells.specs.declared.world.World.{World}
-use Rattle.vn_cells.specs.world.Names.{Path, Key, path_eq, above, half_eq, half_on, has_half}
+use Rattle.vn_cells.specs.world.Names.{Path, Key, path_eq, above, half_eq, half_name, half_on, has_half}
 use Rattle.vn_cells.specs.world.World.{stack_at, pair_at, common_of, entry_of, noting, live_map}
 use Rattle.vn_cells.specs.machine.Commands.{near_rule}
 use Rattle.vn_cells.specs.machine.Local.{scene_in, live_after, pair_after, halves_at}
@@ -95,7 +95,7 @@ pub record AddsJail (issuer p : Path) (limit : ℕ) (entry : Entry) (old new : W
 abbrev pub AnswersNear : World → ℕ → Path → Command → Live → Type 0
 AnswersNear w lane p command live =
     let scene = scene_in w live.parts in
-    let a = answer scene (near_rule half_eq (common_of w) command scene) in
+    let a = answer scene (near_rule half_eq half_name (common_of w) command scene) in
     ChangesNear p (answered_near w.clock lane command a) a.left w
     (step w (event.Cmd lane p command))
 

@@ -46,3 +46,4 @@ pub mod PingAwaited
 pub mod NamedHalves
 pub mod RuleLaws
 pub mod CommandLaws
+pub mod LinkLaws

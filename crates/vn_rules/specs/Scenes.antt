@@ -1,9 +1,11 @@
 -- What a rule on packets is handed: a stack's parts, and a link for each half that stands there.
-use Rattle.std.specs.Prelude.{ℕ, Bool, false, List, [], ◌∷◌, map, unwrap_or, if◌then◌else◌}
-use Rattle.std.specs.List.{find}
+use Rattle.std.specs.Prelude.{ℕ, Bool, false, ◌&&◌, nat_le, List, [], ◌∷◌, length, map, unwrap_or, if◌then◌else◌}
+use Rattle.std.specs.List.{find, list_all}
 use Rattle.vn_types.specs.declared.address.Mac.{Mac}
 use Rattle.vn_rules.specs.declared.parts.PartsOf.{PartsOf}
+use Rattle.vn_rules.specs.declared.parts.TheConstants.{SENT_MAX}
 use Rattle.vn_rules.specs.Renamed.{renamed}
+use Rattle.vn_rules.specs.Soundness.{is_sound_parts}
 
 -- a half, as the stack where it stands sees it
 pub record LinkOf (N : Type 0) : Type 0 where
@@ -32,7 +34,16 @@ module _ {N : Type 0} where
   abbrev pub no_link : N → LinkOf N
   no_link h = record { half = h; mac = no_mac; up = false; sent = [] }
 
+-- whether so many frames wait as a queue can have
+abbrev pub is_queue : List (List ℕ) → Bool
+is_queue frames = nat_le (length frames) SENT_MAX
+
 module _ {N : Type 0} (same : N → N → Bool) where
+  -- the tables are sound, and no queue is too long
+  unfoldable pub is_sound_scene : SceneOf N → Bool
+  is_sound_scene s =
+      is_sound_parts same s.parts && list_all (λ (l : LinkOf N). is_queue l.sent) s.links
+
   -- a half's own link
   unfoldable pub link_of : N → SceneOf N → LinkOf N
   link_of h s = unwrap_or (find (λ l. same l.half h) s.links) (no_link h)

@@ -17,7 +17,7 @@ pub use address::{Addr, AddrOf};
 pub use arp::{ArpEntry, ArpEntryOf, ArpState, HELD_MAX, REQUESTS_MAX};
 pub use network::{directed_broadcast, is_loopback, is_no_host, lies_in, network_of};
 pub use outcome::Outcome;
-pub use parts::{Drops, LOOPBACK_MAX, PartsOf};
+pub use parts::{Drops, LOOPBACK_MAX, PartsOf, SENT_MAX};
 pub use ping::{Ping, PingOf, PingsOf};
 pub use route::{Target, TargetOf};
 pub use socket::{Gram, GramOf, Peer, RECEIVED_MAX, SocketOf};

@@ -11,6 +11,9 @@ use vn_types::{IfOf, List, Prefix};
 /// The most datagrams that are on their way through lo0 at a time.
 pub const LOOPBACK_MAX: usize = 256;
 
+/// The most frames that wait in each of the two queues of a pair.
+pub const SENT_MAX: usize = 128;
+
 /// How many frames, packets and datagrams a stack dropped, by cause (netstat(1), `-s`).
 #[derive(Clone, Copy, PartialEq, Eq)]
 pub struct Drops {

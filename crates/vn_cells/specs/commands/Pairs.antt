@@ -1,5 +1,5 @@
 -- epair(4) and ifconfig(8): pairs are made and destroyed, and get hardware addresses.
-use Rattle.std.specs.Prelude.{ℕ, ◌/◌, ◌%◌, Bool, false, ◌==◌, ◌||◌, not, nat_lt, List, [], ◌∷◌, ◌++◌, filter, Option, Some, None}
+use Rattle.std.specs.Prelude.{ℕ, ◌/◌, ◌%◌, Bool, false, ◌||◌, not, nat_lt, List, [], ◌∷◌, Option, Some, None}
 use Rattle.std.specs.Option.{is_none}
 use Rattle.vn_types.specs.declared.address.Mac.{Mac}
 use Rattle.vn_types.specs.declared.errno.Errno.TheVariants as errno
@@ -13,6 +13,7 @@ use Rattle.vn_types.specs.InterfaceWords.{ifname_text}
 use Rattle.vn_rules.specs.declared.outcome.Outcome.{Outcome}
 use Rattle.vn_rules.specs.declared.outcome.Outcome.TheVariants.{Value}
 use Rattle.vn_rules.specs.declared.parts.PartsOf.{PartsOf}
+use Rattle.vn_rules.specs.Interfaces.{with_interface, without_interface}
 use Rattle.vn_rules.specs.LinkCommands.{half_alone}
 use Rattle.vn_rules.specs.Named.{is_lo0}
 use Rattle.vn_rules.specs.Purge.{purged}
@@ -21,7 +22,7 @@ use Rattle.vn_rules.specs.Rules.{Answer, Rule, done}
 use Rattle.vn_cells.specs.declared.world.End.{End}
 use Rattle.vn_cells.specs.declared.world.Pair.{Pair}
 use Rattle.vn_cells.specs.declared.world.World.{World}
-use Rattle.vn_cells.specs.world.Names.{Path, Key, If, half_eq, if_eq, half_on, key_of}
+use Rattle.vn_cells.specs.world.Names.{Path, Key, If, half_eq, half_on, key_of}
 use Rattle.vn_cells.specs.world.World.{pair_at, end_of, with_end, on_parts, edit_live, edit_pair, add_pair, drop_pair}
 use Rattle.vn_cells.specs.commands.Taken.{standing, is_unit_free, lowest_free, units}
 
@@ -54,11 +55,11 @@ with_mac side mac pair = with_end side (record (end_of side pair) { mac = mac })
 
 -- the half is the last of the interfaces
 abbrev pub attached : Half → PartsOf Half → PartsOf Half
-attached h p = record p { interfaces = p.interfaces ++ OfHalf h ∷ [] }
+attached h p = record p { interfaces = with_interface (OfHalf h) p.interfaces }
 
 -- the half is none of the interfaces
 abbrev pub unlisted : Half → PartsOf Half → PartsOf Half
-unlisted h p = record p { interfaces = filter (λ on. not (if_eq on (OfHalf h))) p.interfaces }
+unlisted h p = record p { interfaces = without_interface half_eq (OfHalf h) p.interfaces }
 
 -- nothing of the stack names the half, and it is none of the interfaces
 abbrev pub detached : Half → PartsOf Half → PartsOf Half
@@ -108,9 +109,14 @@ abbrev pub told_pair : Path → ℕ → World → Answer World
 told_pair p unit w =
     record { left = made_pair (p, unit) w; outcome = Value (ifname_text (Epair unit A)) }
 
--- epair create: of the lowest unit that is free
+-- of the lowest unit that is free; events are too few to take all of them
+unfoldable pub told_lowest : Path → Option ℕ → World → Answer World
+told_lowest p None w = done w
+told_lowest p (Some unit) w = told_pair p unit w
+
+-- epair create
 abbrev pub any_making : Path → World → Rule World
-any_making p w = record { refusals = []; otherwise = told_pair p (lowest_free w p) w }
+any_making p w = record { refusals = []; otherwise = told_lowest p (lowest_free w p) w }
 
 -- epair create of a unit
 abbrev pub making : Path → ℕ → World → Rule World

@@ -63,11 +63,12 @@ abbrev pub units : ℕ
 units = 16777216
 
 -- the first unit from one on that passes, among so many
-unfoldable pub first_unit : ℕ → ℕ → (ℕ → Bool) → ℕ
-first_unit zero unit test = unit
+unfoldable pub first_unit : ℕ → ℕ → (ℕ → Bool) → Option ℕ
+first_unit zero unit test = None
 first_unit (suc more) unit test =
-    elim (test unit) as (λ _. ℕ) [ true ↦ unit | false ↦ first_unit more (unit + 1) test ]
+    elim (test unit) as (λ _. Option ℕ)
+    [ true ↦ Some unit | false ↦ first_unit more (unit + 1) test ]
 
 -- the lowest unit that is free
-unfoldable pub lowest_free : World → Path → ℕ
+unfoldable pub lowest_free : World → Path → Option ℕ
 lowest_free w p = first_unit units 0 (is_unit_free w p)

@@ -6,6 +6,7 @@ use Rattle.vn_types.specs.declared.half.Half.{Half}
 use Rattle.vn_types.specs.declared.interface.Side.{Side}
 use Rattle.vn_types.specs.declared.interface.IfOf.TheVariants.{Lo0, Half as OfHalf}
 use Rattle.vn_rules.specs.declared.parts.PartsOf.{PartsOf}
+use Rattle.vn_rules.specs.Scenes.{is_queue}
 use Rattle.vn_rules.specs.Soundness.{is_sound_parts}
 use Rattle.vn_cells.specs.declared.world.Live.{Live}
 use Rattle.vn_cells.specs.declared.world.Pair.{Pair}
@@ -41,6 +42,11 @@ abbrev pub times_listed : World → Path → If → ℕ
 times_listed w p Lo0 = times (is_alive w p)
 times_listed w p (OfHalf h) = times (stands_at p h.side (pair_at w (key_of h)))
 
+-- no queue of the pair is too long
+abbrev pub has_queues : Option Pair → Bool
+has_queues None = true
+has_queues (Some pair) = is_queue pair.a.sent && is_queue pair.b.sent
+
 -- ---- what every world of a run keeps of them
 
 -- halves and tables
@@ -52,5 +58,7 @@ pub record IsStanding (w : World) : Type 0 where
       → count_by (if_eq on) (ifs_of (stack_at w p)) ≡ times_listed w p on
   -- the tables of each stack agree among themselves, and with the interfaces
   pub tables : (p : Path) → passes (is_sound_parts half_eq) (stack_at w p).live ≡ true
+  -- no queue is longer than it can be
+  pub queues : (k : Key) → has_queues (pair_at w k) ≡ true
   -- the pairs are in order, and no key stands twice
   pub pairs_ordered : IsStrictlySortedBy key_cmp (keys_of w.pairs)

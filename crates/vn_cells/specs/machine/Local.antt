@@ -17,7 +17,7 @@ use Rattle.vn_cells.specs.declared.world.Live.{Live}
 use Rattle.vn_cells.specs.declared.world.Pair.{Pair}
 use Rattle.vn_cells.specs.declared.world.Reader.{Reader}
 use Rattle.vn_cells.specs.declared.world.World.{World}
-use Rattle.vn_cells.specs.world.Names.{Path, Key, half_eq, halves_of, half_on, has_half}
+use Rattle.vn_cells.specs.world.Names.{Path, Key, half_eq, half_name, halves_of, half_on, has_half}
 use Rattle.vn_cells.specs.world.World.{common_of, stack_at, ifs_of, end_at, entry_of, edit_stack, edit_live, each_pair}
 use Rattle.vn_cells.specs.machine.Commands.{near_rule}
 
@@ -122,7 +122,7 @@ unfoldable pub near_answer :
     Common → Command → Option (SceneOf Half) → Answer (Option (SceneOf Half))
 near_answer common command None = refused errno.NoEnt None
 near_answer common command (Some scene) =
-    let a = answer scene (near_rule half_eq common command scene) in
+    let a = answer scene (near_rule half_eq half_name common command scene) in
     record { left = Some a.left; outcome = a.outcome }
 
 -- a command's state and its line

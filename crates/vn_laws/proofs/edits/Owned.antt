@@ -104,7 +104,7 @@ module _ (h : Half) where
   without_addrs-interfaces [] p = refl
   without_addrs-interfaces (a ∷ addresses) p = without_addrs-interfaces addresses (without_addr half_eq a p)
 
-  purged-interfaces : (p : PartsOf Half) → (purged half_eq h p).interfaces ≡ p.interfaces
+  pub purged-interfaces : (p : PartsOf Half) → (purged half_eq h p).interfaces ≡ p.interfaces
   unfolding purged without_names without_entries without_pings without_grams_by
   purged-interfaces p = without_addrs-interfaces (filter (is_on half_eq (OfHalf h)) p.addresses) p
 

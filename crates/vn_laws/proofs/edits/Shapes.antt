@@ -11,7 +11,7 @@ use Rattle.vn_cells.specs.declared.world.Stack.{Stack}
 use Rattle.vn_cells.specs.declared.world.World.{World}
 use Rattle.vn_cells.specs.world.Names.{Path, key_of, key_cmp, path_eq, half_eq}
 use Rattle.vn_cells.specs.world.World.{stack_at, ifs_of, edit_stack}
-use Rattle.vn_cells.specs.keeping.Standing.{passes}
+use Rattle.vn_cells.specs.keeping.Standing.{passes, has_queues}
 use Rattle.vn_cells.specs.keeping.Sound.{IsSound}
 use Rattle.vn_cells.specs.keeping.Moved.{forgets, is_emptied}
 use Rattle.vn_laws.specs.Relations.{Belongs, Leaves}
@@ -43,7 +43,8 @@ shape_standing {v} {w} t = record {
 
 pub sound-shape : {v w : World} → IsSound v → SameShape v w → IsSound w
 sound-shape s t = record {
-  standing = standing-same s.standing (shape_standing t) (λ p. ap (passes (is_sound_parts half_eq)) (t.lives p) ∙ s.standing.tables p);
+  standing = standing-same s.standing (shape_standing t) (λ p. ap (passes (is_sound_parts half_eq)) (t.lives p) ∙ s.standing.tables p)
+      (λ k. ap has_queues (t.pairs k) ∙ s.standing.queues k);
   tree = tree-same s.tree (shape_tree t);
   names = named-same s.names (shape_standing t).pairs;
 }

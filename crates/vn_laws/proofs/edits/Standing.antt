@@ -13,7 +13,7 @@ use Rattle.vn_cells.specs.declared.world.Pair.{Pair}
 use Rattle.vn_cells.specs.declared.world.World.{World}
 use Rattle.vn_cells.specs.world.Names.{Path, Key, If, key_of, if_eq, path_eq, is_under, half_eq}
 use Rattle.vn_cells.specs.world.World.{stack_at, pair_at, is_alive, ifs_of, end_of, place}
-use Rattle.vn_cells.specs.keeping.Standing.{IsStanding, is_placed, stands_at, times, times_listed, passes}
+use Rattle.vn_cells.specs.keeping.Standing.{IsStanding, is_placed, stands_at, times, times_listed, passes, has_queues}
 use Rattle.vn_cells.specs.keeping.Sound.{IsNamed}
 use Rattle.vn_cells.specs.keeping.Moved.{LeavesNothing}
 use Rattle.vn_laws.specs.Relations.{Belongs, Leaves, IsGone, owns_ifs}
@@ -122,11 +122,13 @@ pub record SameStanding (v w : World) : Type 0 where
   pub ordered : OrderedPairs v → OrderedPairs w
 
 pub standing-same : {v w : World} → IsStanding v → SameStanding v w
-    → ((p : Path) → passes (is_sound_parts half_eq) (stack_at w p).live ≡ true) → IsStanding w
-standing-same {v} {w} s t tables = record {
+    → ((p : Path) → passes (is_sound_parts half_eq) (stack_at w p).live ≡ true)
+    → ((k : Key) → has_queues (pair_at w k) ≡ true) → IsStanding w
+standing-same {v} {w} s t tables queues = record {
   places = λ k side. still_placed t.pairs (λ p h. t.alive p ∙ h) k side (s.places k side);
   listed = λ p on. ap (count_by (if_eq on)) (t.ifs p) ∙ s.listed p on ∙ sym (times_same p on);
   tables = tables;
+  queues = queues;
   pairs_ordered = t.ordered s.pairs_ordered;
 }
   where

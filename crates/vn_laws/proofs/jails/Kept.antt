@@ -24,7 +24,7 @@ use Rattle.vn_cells.specs.world.Names.{Path, Key, If, key_of, path_eq, is_host, 
 use Rattle.vn_cells.specs.world.World.{stack_at, pair_at, is_alive, ifs_in, ifs_of, end_of}
 use Rattle.vn_cells.specs.commands.Jails.{recount_above, created}
 use Rattle.vn_cells.specs.sets.Sets.{in_stacks}
-use Rattle.vn_cells.specs.keeping.Standing.{passes, stands_at, is_placed, times, times_listed}
+use Rattle.vn_cells.specs.keeping.Standing.{passes, has_queues, stands_at, is_placed, times, times_listed}
 use Rattle.vn_cells.specs.keeping.Sound.{IsSound, living_below, counts_right}
 use Rattle.vn_cells.specs.keeping.Moved.{forgets, is_emptied}
 use Rattle.vn_laws.specs.Relations.{Belongs, Leaves, owns_ifs}
@@ -174,6 +174,7 @@ module _ {v : World} (s : IsSound v) (clock : ℕ) (p : Path) (limit : ℕ) (dea
       places = λ k side. still_placed same_places lives k side (s.standing.places k side);
       listed = listed_created;
       tables = tests_created (is_sound_parts half_eq) (constructed_parts-sound half_eq) s.standing.tables;
+      queues = λ k. ap has_queues (created_pair clock p limit v k) ∙ s.standing.queues k;
       pairs_ordered = created_pairs clock p limit v s.standing.pairs_ordered;
     };
     tree = record {

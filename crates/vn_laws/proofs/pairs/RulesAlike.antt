@@ -1,20 +1,17 @@
 -- The commands on pairs say the same in two worlds that are alike in a set with their deciders.
-use Rattle.std.proofs.Common.{◌≡◌, ℕ, true, ◌||◌, not, nat_lt, [], ◌∷◌, Option, refl, ap, subst}
+use Rattle.std.proofs.Common.{◌≡◌, ℕ, true, ◌||◌, not, nat_lt, [], ◌∷◌, Option, Some, None, refl, ap, ◌∙◌, subst}
 use Rattle.std.specs.Option.{is_none}
 use Rattle.vn_types.specs.declared.address.Mac.{Mac}
 use Rattle.vn_types.specs.declared.errno.Errno.TheVariants as errno
 use Rattle.vn_types.specs.declared.interface.IfName.TheVariants.{Epair}
 use Rattle.vn_types.specs.declared.interface.Side.{Side}
-use Rattle.vn_types.specs.declared.interface.Side.TheVariants.{A}
-use Rattle.vn_types.specs.InterfaceWords.{ifname_text}
-use Rattle.vn_rules.specs.declared.outcome.Outcome.TheVariants.{Value}
 use Rattle.vn_rules.specs.LinkCommands.{half_alone}
 use Rattle.vn_rules.specs.Named.{is_lo0}
 use Rattle.vn_cells.specs.declared.cell.Cells.{Cells}
 use Rattle.vn_cells.specs.declared.world.World.{World}
 use Rattle.vn_cells.specs.world.Names.{Path, If}
 use Rattle.vn_rules.specs.Resolution.{is_no_station}
-use Rattle.vn_cells.specs.commands.Pairs.{made_pair, destroyed_by, with_mac_on, any_making, making, destruction, mac_setting}
+use Rattle.vn_cells.specs.commands.Pairs.{told_lowest, destroyed_by, with_mac_on, any_making, making, destruction, mac_setting}
 use Rattle.vn_cells.specs.commands.Taken.{standing, lowest_free, units}
 use Rattle.vn_cells.specs.keeping.Sound.{IsSound}
 use Rattle.vn_cells.specs.sets.Sets.{in_stacks}
@@ -25,12 +22,22 @@ use Rattle.vn_laws.proofs.pairs.NamedAlike.{PairInside, owns_standing, standing_
 use Rattle.vn_laws.proofs.rule.Alike.{AlikeRules}
 
 module _ {set : Cells} {v w : World} (a : Alike set v w) (sv : IsSound v) (sw : IsSound w) (issuer : Path) where
+  told_alike : (o : Option ℕ) → (told_lowest issuer o v).outcome ≡ (told_lowest issuer o w).outcome
+  unfolding told_lowest
+  told_alike None = refl
+  told_alike (Some unit) = refl
+
+  made_alike : (o : Option ℕ) → Alike set (told_lowest issuer o v).left (told_lowest issuer o w).left
+  unfolding told_lowest
+  made_alike None = a
+  made_alike (Some unit) = (twins-made_pair (twins-sound a sv sw) (issuer, unit)).alike
+
   pub any_making_alike : in_stacks set issuer ≡ true → AlikeRules set (any_making issuer v) (any_making issuer w)
   any_making_alike inside = record {
     refusals = refl;
-    outcome = ap (λ unit. Value (ifname_text (Epair unit A))) (lowest_in a issuer inside);
-    left = λ none. subst (λ unit. Alike set (made_pair (issuer, lowest_free v issuer) v) (made_pair (issuer, unit) w))
-        (lowest_in a issuer inside) (twins-made_pair (twins-sound a sv sw) (issuer, lowest_free v issuer)).alike;
+    outcome = ap (λ (o : Option ℕ). (told_lowest issuer o v).outcome) (lowest_in a issuer inside) ∙ told_alike (lowest_free w issuer);
+    left = λ none. subst (λ o. Alike set (told_lowest issuer (lowest_free v issuer) v).left (told_lowest issuer o w).left)
+        (lowest_in a issuer inside) (made_alike (lowest_free v issuer));
   }
 
   module _ (unit : ℕ) (all : PairInside set issuer unit) where

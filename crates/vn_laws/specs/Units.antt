@@ -1,0 +1,23 @@
+-- The unit of a pair that is made without one.
+use Rattle.std.specs.Prelude.{◌≡◌, ℕ, ◌<◌, true, false, Option, Some, None}
+use Rattle.vn_cells.specs.declared.world.World.{World}
+use Rattle.vn_cells.specs.world.Names.{Path}
+use Rattle.vn_cells.specs.commands.Taken.{units, is_unit_free}
+
+-- a unit is free, and none below it
+pub record IsLowest (w : World) (p : Path) (unit : ℕ) : Type 0 where
+  -- a pair can be made with it
+  pub bound : unit < units
+  -- it is free
+  pub free : is_unit_free w p unit ≡ true
+  -- none below it is
+  pub least : (n : ℕ) → n < unit → is_unit_free w p n ≡ false
+
+-- no unit is free
+abbrev pub NoneFree : World → Path → Type 0
+NoneFree w p = (n : ℕ) → n < units → is_unit_free w p n ≡ false
+
+-- the lowest unit that is free, or none where none is
+abbrev pub IsLowestFree : World → Path → Option ℕ → Type 0
+IsLowestFree w p None = NoneFree w p
+IsLowestFree w p (Some unit) = IsLowest w p unit
