@@ -1,0 +1,5 @@
+pub mod Lists
+pub mod Order
+pub mod Keeps
+pub mod Names
+pub mod Next

@@ -1,0 +1,41 @@
+-- How the table keeps its pairs: by name, and by the frames that wait.
+use Rattle.std.specs.Prelude.{◌≡◌, ℕ, ◌+◌, ◌≤◌, Bool, true, false, not, List, Option, Some, None, IfSome, if◌then◌else◌}
+use Rattle.std.specs.List.{list_any, sum_by}
+use Rattle.std.specs.BTreeMap.{BTreeMap, get}
+use Rattle.std.specs.Ordering.{nat_cmp, ordering_then}
+use Rattle.std.specs.declared.cmp.Ordering.{Ordering}
+use Rattle.vn_types.specs.declared.interface.HalfId.{HalfId}
+use Rattle.vn_epair.specs.declared.line.Awaited.{Awaited}
+use Rattle.vn_epair.specs.declared.pair_row.TheConstants.{UNIT_MAX}
+use Rattle.vn_epair.specs.Halves.{Pair}
+use Rattle.vn_epair.specs.Pairs.{of, is_awaiting, is_named, is_quiet}
+use Rattle.vn_epair.specs.Line.{Halves, is_half}
+
+-- a home and a unit
+abbrev pub Name : Type 0
+Name = ℕ × ℕ
+
+abbrev pub name_cmp : Name → Name → Ordering
+name_cmp x y = ordering_then (nat_cmp x.0 y.0) (nat_cmp x.1 y.1)
+
+-- how many halves of a pair sent nothing that waits
+abbrev pub quiet_halves : Option Pair → ℕ
+quiet_halves None = 0
+quiet_halves (Some pair) = (if is_quiet pair.a then 1 else 0) + (if is_quiet pair.b then 1 else 0)
+
+-- whether a half is listed under its pair's home and unit
+abbrev pub is_right : List (Option Pair) → Awaited → Bool
+is_right pairs e = is_named e.home.0 e.unit (of pairs e.half.pair)
+
+-- what holds of the pairs, their names, and the halves in order
+pub record IsKept (pairs : List (Option Pair)) (names : BTreeMap Name ℕ) (halves : Halves) : Type 0 where
+  -- each pair is found by its name
+  pub named : (q : ℕ) → IfSome (of pairs q) (λ pair. get name_cmp names (pair.home, pair.unit) ≡ Some q)
+  -- and nothing else is
+  pub standing : (k : Name) → IfSome (get name_cmp names k) (λ q. is_named k.0 k.1 (of pairs q) ≡ true)
+  pub units : (q : ℕ) → IfSome (of pairs q) (λ pair. pair.unit ≤ UNIT_MAX)
+  -- the halves in order are those to which a frame comes
+  pub listed : (h : HalfId) → list_any (is_half h) halves.listed ≡ is_awaiting pairs h
+  pub right : list_any (λ e. not (is_right pairs e)) halves.listed ≡ false
+  -- there is room for each other half
+  pub room : halves.room ≡ sum_by quiet_halves pairs
