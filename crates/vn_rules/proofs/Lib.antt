@@ -47,3 +47,4 @@ pub mod NamedHalves
 pub mod RuleLaws
 pub mod CommandLaws
 pub mod LinkLaws
+pub mod PingEnded

@@ -28,8 +28,8 @@ module _ {N : Type 0} (same : N → N → Bool) where
   is_uncovered on routes half ip =
       if_same same (Half half) on && not (covers same (Half half) ip routes)
 
-  -- what the address alone brought goes with it: routes, the ARP entries that none covers any more, the
-  -- pings sent from it, and what sockets it was bound to
+  -- an address goes, and with it what stood on it alone: its interface route with the gateways beyond, the
+  -- ARP entries that no route covers any more, and the pings that were sent from it; sockets lose it
   unfoldable pub without_addr : AddrOf N → PartsOf N → PartsOf N
   without_addr a p =
       let left = without_address same (Some a) p.addresses in
