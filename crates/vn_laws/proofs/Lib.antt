@@ -13,4 +13,5 @@ pub mod Cleaned
 pub mod Reach
 pub mod Whole
 pub mod RowTexts
+pub mod PairTexts
 pub mod ClosedRows

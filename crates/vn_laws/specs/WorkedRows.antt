@@ -1,6 +1,10 @@
 -- Some histories, with the text that they leave.
 use Rattle.std.specs.Prelude.{ℕ, Bool, true, false, List, [], ◌∷◌, ◌++◌, codes}
 use Rattle.std.specs.List.{list_all}
+use Rattle.vn_types.specs.declared.interface.IfName.TheVariants.{Epair}
+use Rattle.vn_types.specs.declared.interface.IfOf.TheVariants.{Lo0, Half as OfHalf}
+use Rattle.vn_types.specs.declared.interface.Side.{Side}
+use Rattle.vn_types.specs.declared.interface.Side.TheVariants.{A, B}
 use Rattle.vn_cells.specs.declared.cell.Cells.{Cells}
 use Rattle.vn_cells.specs.declared.command.Command.TheVariants as command
 use Rattle.vn_cells.specs.declared.event.Event.{Event}
@@ -8,7 +12,7 @@ use Rattle.vn_cells.specs.declared.event.Event.TheVariants as event
 use Rattle.vn_cells.specs.declared.script.Part.{Part}
 use Rattle.vn_cells.specs.declared.script.Part.TheVariants.{Phase}
 use Rattle.vn_cells.specs.declared.script.Script.{Script}
-use Rattle.vn_cells.specs.world.Names.{Path}
+use Rattle.vn_cells.specs.world.Names.{Path, If, half_on}
 
 -- a
 abbrev pub jail_a : Path
@@ -53,6 +57,39 @@ two_children =
 -- a jail with room for one, whose child has room: a grandchild is refused, two levels up
 abbrev pub grandchild : List Event
 grandchild = makes jail_a 1 ∷ child_of jail_a (codes "b") 5 ∷ child_of jail_a_b (codes "c") 0 ∷ []
+
+-- host makes the pair of a unit on lane 1
+abbrev pub makes_pair : ℕ → Event
+makes_pair unit = event.Cmd 1 [] (command.EpairCreate unit)
+
+-- host lends a half to a jail on lane 1
+abbrev pub lends : ℕ → Side → Path → Event
+lends unit side jail = event.Cmd 1 [] (command.Vnet (Epair unit side) jail)
+
+-- a jail makes the pair of a unit on lane 1
+abbrev pub pair_of : Path → ℕ → Event
+pair_of jail unit = event.Cmd 1 jail (command.EpairCreate unit)
+
+-- the pair of a unit is made, once more, and then one of any unit
+abbrev pub two_pairs : List Event
+two_pairs = makes_pair 0 ∷ makes_pair 0 ∷ event.Cmd 1 [] command.EpairAny ∷ []
+
+-- a name is taken in a jail where the pair of that unit is homed there, and where another half
+-- stands under it
+abbrev pub taken : List Event
+taken =
+    makes jail_a 1 ∷ child_of jail_a (codes "b") 0 ∷ pair_of jail_a 0 ∷ makes_pair 0 ∷ lends 0 A jail_a
+    ∷ event.Cmd 1 jail_a (command.Vnet (Epair 0 A) (codes "b" ∷ [])) ∷ lends 0 A jail_a_b ∷ []
+
+-- halves of host in a jail, and a jail that is removed: they are home in the order in which they
+-- stood there, behind what stood in host
+abbrev pub lent : List Event
+lent =
+    makes jail_a 0 ∷ makes_pair 0 ∷ makes_pair 1 ∷ lends 0 A jail_a ∷ lends 1 B jail_a ∷ []
+
+-- the jail is removed
+abbrev pub removes : Event
+removes = event.Cmd 1 [] (command.JailRemove jail_a)
 
 -- ---- their texts
 
@@ -111,6 +148,54 @@ grandchild_text =
     ++ codes "cmd 1 host jail -c name=a vnet persist children.max=1\n"
     ++ codes "cmd 1 a jail -c name=b vnet persist children.max=5\n"
     ++ codes "cmd 1 a.b jail -c name=c vnet persist\n== end\n"
+
+-- epair0a, EEXIST, epair1a
+abbrev pub two_pairs_text : List ℕ
+two_pairs_text =
+    codes "== host\n" ++ init_text
+    ++ codes "0 1 ifconfig epair0 create = epair0a\n0 1 ifconfig epair0 create = EEXIST 17\n"
+    ++ codes "0 1 ifconfig epair create = epair1a\n" ++ history_begins
+    ++ codes "cmd 1 host ifconfig epair0 create\ncmd 1 host ifconfig epair0 create\n"
+    ++ codes "cmd 1 host ifconfig epair create\n== end\n"
+
+-- EEXIST in the jail, which has a pair of that unit, and EEXIST in its child, where its half stands
+abbrev pub taken_text : List ℕ
+taken_text =
+    codes "== host\n" ++ init_text
+    ++ codes "0 1 jail -c name=a vnet persist children.max=1 = ok\n"
+    ++ codes "0 1 ifconfig epair0 create = epair0a\n0 1 ifconfig epair0a vnet a = EEXIST 17\n"
+    ++ codes "0 1 ifconfig epair0a vnet a.b = EEXIST 17\n== a\n" ++ init_text
+    ++ codes "0 1 jail -c name=b vnet persist = ok\n0 1 ifconfig epair0 create = epair0a\n"
+    ++ codes "0 1 ifconfig epair0a vnet b = ok\n== a.b\n" ++ init_text ++ history_begins
+    ++ codes "cmd 1 host jail -c name=a vnet persist children.max=1\n"
+    ++ codes "cmd 1 a jail -c name=b vnet persist\ncmd 1 a ifconfig epair0 create\n"
+    ++ codes "cmd 1 host ifconfig epair0 create\ncmd 1 host ifconfig epair0a vnet a\n"
+    ++ codes "cmd 1 a ifconfig epair0a vnet b\ncmd 1 host ifconfig epair0a vnet a.b\n== end\n"
+
+-- the destructors' entries, from the last row to the first
+abbrev pub uninit_text : List ℕ
+uninit_text =
+    codes "0 - uninit vnet_if_return\n0 - uninit udp\n0 - uninit icmp\n0 - uninit ip\n"
+    ++ codes "0 - uninit arp\n0 - uninit route\n0 - uninit inaddr\n0 - uninit loif\n"
+    ++ codes "0 - uninit vnet_cloner\n0 - uninit vnet_if\n0 - uninit vnet_data\n"
+
+-- all ok, and the jail's destructors ran
+abbrev pub removed_text : List ℕ
+removed_text =
+    codes "== host\n" ++ init_text ++ codes "0 1 jail -c name=a vnet persist = ok\n"
+    ++ codes "0 1 ifconfig epair0 create = epair0a\n0 1 ifconfig epair1 create = epair1a\n"
+    ++ codes "0 1 ifconfig epair0a vnet a = ok\n0 1 ifconfig epair1b vnet a = ok\n"
+    ++ codes "0 1 jail -r a = ok\n== a\n" ++ init_text ++ uninit_text ++ history_begins
+    ++ codes "cmd 1 host jail -c name=a vnet persist\ncmd 1 host ifconfig epair0 create\n"
+    ++ codes "cmd 1 host ifconfig epair1 create\ncmd 1 host ifconfig epair0a vnet a\n"
+    ++ codes "cmd 1 host ifconfig epair1b vnet a\ncmd 1 host jail -r a\n== end\n"
+
+-- the interfaces of host while the halves are lent, and once they are home
+abbrev pub ifs_lent : List If
+ifs_lent = Lo0 ∷ OfHalf (half_on B ([], 0)) ∷ OfHalf (half_on A ([], 1)) ∷ []
+
+abbrev pub ifs_home : List If
+ifs_home = ifs_lent ++ OfHalf (half_on A ([], 0)) ∷ OfHalf (half_on B ([], 1)) ∷ []
 
 -- ---- sets
 

@@ -1,11 +1,13 @@
-ghost use Rattle.std.specs.Prelude.{◌≡◌, [], IsTrue};
+ghost use Rattle.std.specs.Prelude.{◌≡◌, [], ◌∷◌, ◌++◌, IsTrue};
 ghost use Rattle.vn_cells.specs.declared.script.Script.{Script as AnyScript};
+ghost use Rattle.vn_cells.specs.world.World.{stack_at, ifs_of};
 ghost use Rattle.vn_cells.specs.machine.Step.{opening, run};
 ghost use Rattle.vn_cells.specs.sets.Changed.{IsClosed};
 ghost use Rattle.vn_cells.specs.texts.Schedule.{serial_run};
 ghost use Rattle.vn_cells.specs.texts.Text.{text};
 ghost use Rattle.vn_laws.specs.WorkedRows.{has_no_line, jail_a, jail_a_b, only, family, twice, no_parent_no_room, child, two_children, grandchild};
 ghost use Rattle.vn_laws.specs.WorkedRows.{empty_text, twice_text, no_parent_no_room_text, two_children_text, grandchild_text};
+ghost use Rattle.vn_laws.specs.WorkedRows.{two_pairs, taken, lent, removes, two_pairs_text, taken_text, removed_text, ifs_lent, ifs_home};
 
 /// A script without lines runs to the opening world; and some histories, with the text that they
 /// leave octet for octet.
@@ -17,6 +19,17 @@ pub fn law_of_worked_rows()
     ensures no_parent_no_room { text no_parent_no_room ≡ no_parent_no_room_text }
     ensures two_children { text two_children ≡ two_children_text }
     ensures grandchild { text grandchild ≡ grandchild_text }
+{}
+
+/// Pairs, with the texts that they leave: a second creation of a unit and one of any unit; names that
+/// are taken where the pair of their unit is homed and where another half stands; and halves that come
+/// home where a jail is removed, behind what stands in host, in the order in which they stood there.
+pub fn law_of_worked_pairs()
+    ensures two_pairs { text two_pairs ≡ two_pairs_text }
+    ensures taken { text taken ≡ taken_text }
+    ensures removed { text (lent ++ removes ∷ []) ≡ removed_text }
+    ensures lent { ifs_of (stack_at (run lent) []) ≡ ifs_lent }
+    ensures home { ifs_of (stack_at (run (lent ++ removes ∷ [])) []) ≡ ifs_home }
 {}
 
 /// Sets that are closed in a history, and one that is not, since another jail's limit decides.
