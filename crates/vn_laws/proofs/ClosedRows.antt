@@ -30,7 +30,7 @@ decides set (event.Cmd lane issuer command) = list_all (in_set set) (command_dec
 decides set _ = false
 
 -- a set that decides each event of a history is closed in it
-closed_if_decided : (set : Cells) (w : World) (events : List Event)
+pub closed_if_decided : (set : Cells) (w : World) (events : List Event)
     → list_all (decides set) events ≡ true → is_closed_from set w events ≡ true
 unfolding is_closed_from is_closed_at deciders
 closed_if_decided set w [] all = refl

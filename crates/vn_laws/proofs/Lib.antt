@@ -15,3 +15,4 @@ pub mod Whole
 pub mod RowTexts
 pub mod PairTexts
 pub mod ClosedRows
+pub mod PairRows

@@ -15,6 +15,7 @@ use Rattle.vn_cells.specs.declared.cell.Cells.{Cells}
 use Rattle.vn_cells.specs.declared.cell.CellName.{CellName}
 use Rattle.vn_cells.specs.declared.cell.CellName.TheVariants.{Stack as OfStack, Pair as OfPair}
 use Rattle.vn_cells.specs.declared.event.Event.{Event}
+use Rattle.vn_cells.specs.declared.world.Pair.{Pair}
 use Rattle.vn_cells.specs.declared.world.Stack.{Stack}
 use Rattle.vn_cells.specs.declared.world.World.{World}
 use Rattle.vn_cells.specs.world.Names.{Path, Key, path_cmp, key_cmp}
@@ -170,3 +171,29 @@ module _ (set : Cells) (w : World) (event : Event) (p : Path) (inside : in_stack
   unfolding touches changed in_set
   touched =
       caught (in_set set) (differs w (step w event)) _ (OfStack p) inside differs_there (stack_listed w (step w event) p listed_there)
+
+-- ---- a pair of the set that is another after the event
+
+module _ (set : Cells) (w : World) (event : Event) (k : Key) (inside : in_pairs set k ≡ true)
+    (another : pair_at w k ≡ pair_at (step w event) k → ⊥) where
+  pair_differs : differs w (step w event) (OfPair k.0 k.1) ≡ true
+  unfolding differs
+  pair_differs = by (same (coded_option pair_code) (pair_at w k) (pair_at (step w event) k)) refl
+    where
+      by : (b : Bool) → same (coded_option pair_code) (pair_at w k) (pair_at (step w event) k) ≡ b → not b ≡ true
+      by false e = refl
+      by true e = absurd (another (same-is (coded_option pair_code) _ _ e))
+
+  pair_there : (is_some (find key_cmp k w.pairs) || is_some (find key_cmp k (step w event).pairs)) ≡ true
+  unfolding pair_at
+  pair_there = by (find key_cmp k w.pairs) (find key_cmp k (step w event).pairs) another
+    where
+      by : (a b : Option Pair) → (a ≡ b → ⊥) → (is_some a || is_some b) ≡ true
+      by None None apart = absurd (apart refl)
+      by None (Some y) apart = refl
+      by (Some x) b apart = refl
+
+  pub touched_pair : touches set w event ≡ true
+  unfolding touches changed in_set
+  touched_pair =
+      caught (in_set set) (differs w (step w event)) _ (OfPair k.0 k.1) inside pair_differs (pair_listed w (step w event) k pair_there)

@@ -1,4 +1,6 @@
 pub mod Relations
 pub mod Locality
 pub mod Units
+pub mod Removals
 pub mod WorkedRows
+pub mod PairSets

@@ -5,6 +5,7 @@ ghost use Rattle.vn_cells.specs.machine.Step.{opening, run};
 ghost use Rattle.vn_cells.specs.sets.Changed.{IsClosed};
 ghost use Rattle.vn_cells.specs.texts.Schedule.{serial_run};
 ghost use Rattle.vn_cells.specs.texts.Text.{text};
+ghost use Rattle.vn_laws.specs.PairSets.{any_pair, loan, raised, pair_alone, jail_and_pair};
 ghost use Rattle.vn_laws.specs.WorkedRows.{has_no_line, jail_a, jail_a_b, only, family, twice, no_parent_no_room, child, two_children, grandchild};
 ghost use Rattle.vn_laws.specs.WorkedRows.{empty_text, twice_text, no_parent_no_room_text, two_children_text, grandchild_text};
 ghost use Rattle.vn_laws.specs.WorkedRows.{two_pairs, taken, lent, removes, two_pairs_text, taken_text, removed_text, ifs_lent, ifs_home};
@@ -32,9 +33,14 @@ pub fn law_of_worked_pairs()
     ensures home { ifs_of (stack_at (run (lent ++ removes ∷ [])) []) ≡ ifs_home }
 {}
 
-/// Sets that are closed in a history, and one that is not, since another jail's limit decides.
+/// Sets that are closed in a history, and some that are not: since another jail's limit decides,
+/// since host decides which unit is free, and since host sets up a half that stands there.
 pub fn law_of_closed_rows()
     ensures alone { IsClosed (only jail_a) twice }
     ensures family { IsClosed family child }
     ensures child { ¬ IsClosed (only jail_a_b) child }
+    ensures any_unit { ¬ IsClosed pair_alone any_pair }
+    ensures host { IsClosed (only []) any_pair }
+    ensures loan { IsClosed jail_and_pair loan }
+    ensures raised { ¬ IsClosed jail_and_pair raised }
 {}

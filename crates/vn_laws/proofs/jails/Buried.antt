@@ -1,6 +1,6 @@
 -- A stack to which no half is lent and below which nothing lives dies: the world stays sound, and nothing is left
 -- behind.
-use Rattle.std.proofs.Common.{◌≡◌, ℕ, ◌-◌, Bool, true, false, ◌&&◌, not, [], ◌∷◌, Option, Some, None, refl, sym, ap, ◌∙◌, arith, ◌⊎◌, inl, inr}
+use Rattle.std.proofs.Common.{◌≡◌, ◌-◌, Bool, true, false, ◌&&◌, not, [], Option, Some, None, refl, sym, ap, ◌∙◌, arith, ◌⊎◌, inl, inr}
 use Rattle.std.specs.Prelude.{if◌then◌else◌, count_by}
 use Rattle.std.specs.Option.{is_some}
 use Rattle.std.specs.List.{list_any}
@@ -10,7 +10,6 @@ use Rattle.vn_types.specs.declared.interface.IfOf.TheVariants.{Lo0, Half as OfHa
 use Rattle.vn_types.specs.declared.interface.Side.{Side}
 use Rattle.vn_types.specs.declared.interface.Side.TheVariants.{A, B}
 use Rattle.vn_types.specs.PathOrder.{path_eq-Decides}
-use Rattle.vn_rules.specs.declared.parts.PartsOf.{PartsOf}
 use Rattle.vn_rules.specs.Soundness.{is_sound_parts}
 use Rattle.vn_cells.specs.declared.world.Live.{Live}
 use Rattle.vn_cells.specs.declared.world.Pair.{Pair}
@@ -24,6 +23,7 @@ use Rattle.vn_cells.specs.keeping.Standing.{passes, stands_at, is_placed, times,
 use Rattle.vn_cells.specs.keeping.Sound.{IsSound, living_below, counts_right}
 use Rattle.vn_cells.specs.keeping.Moved.{forgets, is_emptied}
 use Rattle.vn_laws.specs.Relations.{Leaves, IsGone}
+use Rattle.vn_laws.specs.Removals.{HomeAlone}
 use Rattle.vn_laws.proofs.edits.Paths.{path_eq-sym, below-parent, above-below, parent_host}
 use Rattle.vn_laws.proofs.edits.Cells.{Ordered}
 use Rattle.vn_laws.proofs.edits.Counts.{one_living_less, same_living_but}
@@ -34,7 +34,7 @@ use Rattle.vn_laws.proofs.jails.Counted.{recounted, recounted_right}
 use Rattle.vn_laws.proofs.jails.Home.{stands}
 use Rattle.vn_laws.proofs.edits.Fine.{Fine}
 use Rattle.vn_laws.proofs.jails.Killed.{killed_stack, killed_pair, killed_ordered, killed_pairs}
-use Rattle.vn_laws.proofs.jails.Own.{OwnOnly, NoneHomed, HomeAlone}
+use Rattle.vn_laws.proofs.jails.Own.{OwnOnly, NoneHomed}
 
 -- ---- it dies
 

@@ -1,6 +1,6 @@
 -- What a stack's destructors change, but the one that sends halves home: the stack itself, and pairs that are homed there.
 -- Whatever they clear is the stack's own, so nothing is asked of them.
-use Rattle.std.proofs.Common.{◌≡◌, ℕ, ◌≤◌, Bool, true, false, ◌&&◌, ◌||◌, not, List, [], ◌∷◌, ◌++◌, cond, Option, Some, None, refl, sym, ap, ◌∙◌, subst}
+use Rattle.std.proofs.Common.{◌≡◌, ℕ, Bool, true, false, ◌&&◌, ◌||◌, List, [], ◌∷◌, ◌++◌, cond, Option, Some, None, refl, sym, ap, ◌∙◌, subst}
 use Rattle.std.specs.Prelude.{if◌then◌else◌, filter}
 use Rattle.std.specs.Option.{is_some}
 use Rattle.std.specs.List.{list_any, list_all}
@@ -21,6 +21,7 @@ use Rattle.vn_cells.specs.world.Names.{Path, Key, key_cmp, key_eq, path_eq}
 use Rattle.vn_cells.specs.world.World.{noting, entry_of, stack_at, pair_at, live_map, on_parts, edit_live, noted}
 use Rattle.vn_cells.specs.commands.Pairs.{unmade, destroyed_pair}
 use Rattle.vn_cells.specs.commands.Removal.{homed_at, without_pairs, run_down, torn_down}
+use Rattle.vn_laws.specs.Removals.{HomeAlone, is_cloner}
 use Rattle.vn_laws.proofs.edits.Lists.{any-filter}
 use Rattle.vn_laws.proofs.edits.Cells.{stack_at-edit_stack, stack_at-edit_live, pair_at-edit_stack, pair_at-each_stack, ordered-edit_stack, ordered-each_stack, pairs-edit_stack, pairs-each_stack, pair_listed, Ordered, OrderedPairs}
 use Rattle.vn_laws.proofs.pairs.Unmade.{both_cut, unmade_stack, unmade_pair, unmade_stacks, unmade_pairs, pair_at-destroyed_pair}
@@ -45,10 +46,6 @@ own-then a b = record {
 -- the pairs that are homed there are gone
 abbrev pub NoneHomed : Path → World → Type 0
 NoneHomed q w = (k : Key) → path_eq k.0 q ≡ true → pair_at w k ≡ None
-
--- a pair that is homed there stands there with both ends
-abbrev pub HomeAlone : Path → World → Type 0
-HomeAlone q v = (k : Key) (pair : Pair) → path_eq k.0 q ≡ true → pair_at v k ≡ Some pair → (pair.a.at ≡ q) × (pair.b.at ≡ q)
 
 module _ (q : Path) where
   own-none : (v : World) → OwnOnly q v v
@@ -100,7 +97,7 @@ module _ (q : Path) where
       fewer p other true e = cc
       fewer p other false e = e
 
-  alone-later : (v w : World) → OwnOnly q v w → HomeAlone q v → HomeAlone q w
+  pub alone-later : (v w : World) → OwnOnly q v w → HomeAlone q v → HomeAlone q w
   alone-later v w o alone k pair home e = alone k pair home (o.fewer k pair e)
 
   own-without : (ks : List Key) (v : World) → list_all (λ k. path_eq k.0 q) ks ≡ true → HomeAlone q v → OwnOnly q v (without_pairs ks v)
@@ -154,11 +151,6 @@ module _ (q : Path) where
   is_own (Clears f) = true
   is_own SendsHome = false
   is_own DestroysHomed = true
-
-  abbrev pub is_cloner : DownOf Half → Bool
-  is_cloner (Clears f) = false
-  is_cloner SendsHome = false
-  is_cloner DestroysHomed = true
 
   own-run_down : (d : DownOf Half) (v : World) → is_own d ≡ true → HomeAlone q v → OwnOnly q v (run_down q d v)
   unfolding run_down

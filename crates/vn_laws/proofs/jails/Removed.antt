@@ -1,33 +1,27 @@
 -- A removal: each world stays sound, and nothing is left behind.
-use Rattle.std.proofs.Common.{◌≡◌, ℕ, Bool, true, false, cond, ◌&&◌, ◌||◌, not, List, [], ◌∷◌, ◌++◌, codes, take, refl, sym, ap, ◌∙◌, subst, arith}
+use Rattle.std.proofs.Common.{◌≡◌, ℕ, Bool, true, false, cond, ◌&&◌, ◌||◌, not, List, [], ◌∷◌, ◌++◌, refl, sym, ap, ◌∙◌, subst, arith}
 use Rattle.std.specs.Prelude.{filter}
-use Rattle.std.specs.List.{list_any, list_all, AllByRecursion}
+use Rattle.std.specs.List.{list_any, AllByRecursion}
 use Rattle.std.specs.List.Sorted.{IsStrictlySortedBy}
 use Rattle.std.specs.Map.{keys_of}
 use Rattle.std.specs.declared.cmp.Ordering.TheVariants.{Less}
 use Rattle.std.proofs.lemmas.Bool.{and_parts, and_from, not-true, true≢false}
 use Rattle.std.proofs.lemmas.List.Kept.{IsStrictlySortedBy-filter}
-use Rattle.vn_types.specs.declared.half.Half.{Half}
 use Rattle.vn_types.specs.PathOrder.{path_eq-Decides, path_ties, path_total}
 use Rattle.vn_types.proofs.EntryLaws.{below_all}
-use Rattle.vn_rules.specs.Construction.{RowOf, DownOf, SendsHome}
-use Rattle.vn_cells.specs.declared.cell.Cells.{Cells}
-use Rattle.vn_cells.specs.declared.transcript.What.TheVariants.{Uninit}
 use Rattle.vn_cells.specs.declared.world.World.{World}
 use Rattle.vn_cells.specs.world.Names.{Path, path_eq, path_cmp, is_host, is_under, is_below}
 use Rattle.vn_cells.specs.world.World.{is_alive}
 use Rattle.vn_cells.specs.commands.Jails.{rows}
-use Rattle.vn_cells.specs.commands.Removal.{killed, torn_down, run_down, sent_home, lent_here, destroyed, living_under, destroyed_all, removed}
-use Rattle.vn_cells.specs.sets.Sets.{in_stacks}
+use Rattle.vn_cells.specs.commands.Removal.{torn_down, destroyed, living_under, destroyed_all, removed}
 use Rattle.vn_cells.specs.keeping.Sound.{IsSound}
-use Rattle.vn_laws.specs.Relations.{Belongs, Leaves}
+use Rattle.vn_laws.specs.Relations.{Leaves}
+use Rattle.vn_laws.specs.Removals.{HomeAlone, past_cloner, DestroysAtHome}
 use Rattle.vn_laws.proofs.edits.Paths.{path_eq-sym, less-below, under-trans, not_host_under}
 use Rattle.vn_laws.proofs.edits.Lists.{any-filter, any-above_all}
 use Rattle.vn_laws.proofs.edits.Cells.{alive_listed, path_eq-same}
-use Rattle.vn_laws.proofs.edits.Trees.{alive_tree}
 use Rattle.vn_laws.proofs.edits.Standing.{leaves-none, leaves-then}
-use Rattle.vn_laws.proofs.jails.Destroyed.{Destroyed, is_destroyed}
-use Rattle.vn_laws.proofs.jails.Home.{stands}
+use Rattle.vn_laws.proofs.jails.Destroyed.{alone_at_cloner, Destroyed, is_destroyed}
 use Rattle.vn_laws.proofs.edits.Fine.{Fine}
 
 -- ---- all of a list
@@ -67,13 +61,39 @@ module _ (v : World) (s : IsSound v) (clock : ℕ) where
           later : (q p : Path) (ps : List Path) → path_cmp q p ≡ Less → AllByRecursion (λ y. path_cmp p y ≡ Less) ps → list_any (path_eq q) ps ≡ false
           later q p ps less all = any-above_all path_cmp path_total path_eq-Decides path_ties q ps (below_all path_cmp path_total q p ps less all)
 
+  -- nobody lives below the first any more
+  lowest : (p : Path) (ps : List Path) → IsWhole (p ∷ ps) → DestroyedAll ps v (destroyed_all clock ps v) → (r : Path)
+      → is_alive (destroyed_all clock ps v) r ≡ true → is_below r p ≡ false
+  lowest p ps whole more r e = by (is_below r p) refl
+    where
+      both : (is_alive v r && not (list_any (path_eq r) ps)) ≡ true
+      both = sym (more.alive r) ∙ e
+
+      first : list_any (path_eq p) (p ∷ ps) ≡ true
+      first = ap (λ b. b || list_any (path_eq p) ps) (path_eq-same p)
+
+      by : (b : Bool) → is_below r p ≡ b → b ≡ false
+      by false f = refl
+      by true f = absurd (pick (path_eq r p) refl (whole p r first (and_parts _ _ both).0 f))
+        where
+          pick : (c : Bool) → path_eq r p ≡ c → (c || list_any (path_eq r) ps) ≡ true → ⊥
+          pick true g m = true≢false (sym (and_parts _ _ f).1 ∙ ap not (path_eq-sym p r ∙ g))
+          pick false g m = true≢false (sym m ∙ not-true _ (and_parts _ _ both).1)
+
+  -- and the first itself does
+  still_lives : (p : Path) (ps : List Path) → IsStrictlySortedBy path_cmp (p ∷ ps) → is_alive v p ≡ true
+      → DestroyedAll ps v (destroyed_all clock ps v) → is_alive (destroyed_all clock ps v) p ≡ true
+  unfolding IsStrictlySortedBy
+  still_lives p ps sorted alive more =
+      more.alive p ∙ and_from _ _ alive (ap not (any-above_all path_cmp path_total path_eq-Decides path_ties p ps sorted.0))
+
   pub all_destroyed : (ps : List Path) → IsStrictlySortedBy path_cmp ps → AllLive ps → IsWhole ps → DestroyedAll ps v (destroyed_all clock ps v)
   unfolding destroyed_all IsStrictlySortedBy
   all_destroyed [] sorted live whole = record { sound = s; leaves = leaves-none v; alive = λ r. grind arith }
   all_destroyed (p ∷ ps) sorted live whole =
       let more : DestroyedAll ps v (destroyed_all clock ps v) = all_destroyed ps sorted.1 live.1 (rest_whole p ps sorted whole) in
       let one : Destroyed p (destroyed_all clock ps v) (destroyed clock p (destroyed_all clock ps v)) =
-      is_destroyed clock p (destroyed_all clock ps v) more.sound (more.alive p ∙ and_from _ _ live.0.0 (ap not (any-above_all path_cmp path_total path_eq-Decides path_ties p ps sorted.0))) live.0.1 (lowest more) in
+      is_destroyed clock p (destroyed_all clock ps v) more.sound (still_lives p ps sorted live.0.0 more) live.0.1 (lowest p ps whole more) in
       record {
         sound = one.fine.sound;
         leaves = leaves-then more.leaves one.fine.leaves;
@@ -83,22 +103,16 @@ module _ (v : World) (s : IsSound v) (clock : ℕ) where
       join : (a b c : Bool) → ((a && not c) && not b) ≡ (a && not (b || c))
       join a b c = grind arith
 
-      lowest : DestroyedAll ps v (destroyed_all clock ps v) → (r : Path) → is_alive (destroyed_all clock ps v) r ≡ true → is_below r p ≡ false
-      lowest more r e = by (is_below r p) refl
-        where
-          both : (is_alive v r && not (list_any (path_eq r) ps)) ≡ true
-          both = sym (more.alive r) ∙ e
-
-          first : list_any (path_eq p) (p ∷ ps) ≡ true
-          first = ap (λ b. b || list_any (path_eq p) ps) (path_eq-same p)
-
-          by : (b : Bool) → is_below r p ≡ b → b ≡ false
-          by false f = refl
-          by true f = absurd (pick (path_eq r p) refl (whole p r first (and_parts _ _ both).0 f))
-            where
-              pick : (c : Bool) → path_eq r p ≡ c → (c || list_any (path_eq r) ps) ≡ true → ⊥
-              pick true g m = true≢false (sym (and_parts _ _ f).1 ∙ ap not (path_eq-sym p r ∙ g))
-              pick false g m = true≢false (sym m ∙ not-true _ (and_parts _ _ both).1)
+  -- each of them stands with its homed pairs when those are destroyed
+  all_alone : (before : List Path) (q : Path) (after : List Path) → IsStrictlySortedBy path_cmp (before ++ q ∷ after)
+      → AllLive (before ++ q ∷ after) → IsWhole (before ++ q ∷ after)
+      → HomeAlone q (torn_down clock q (past_cloner rows) (destroyed_all clock after v))
+  unfolding IsStrictlySortedBy
+  all_alone [] q after sorted live whole =
+      let more = all_destroyed after sorted.1 live.1 (rest_whole q after sorted whole) in
+      alone_at_cloner q clock (destroyed_all clock after v) more.sound (still_lives q after sorted live.0.0 more) (lowest q after whole more)
+  all_alone (p ∷ before) q after sorted live whole =
+      all_alone before q after sorted.1 live.1 (rest_whole p (before ++ q ∷ after) sorted whole)
 
 -- ---- a removal
 
@@ -123,23 +137,33 @@ in_living_under v p r = any-filter path_cmp path_total path_eq-Decides path_ties
     by true e = ap (λ c. (true && is_under r p) && c) (alive_listed v r e) ∙ grind arith
     by false e = refl
 
-pub is_removed : (clock : ℕ) (p : Path) (v : World) → IsSound v → is_host p ≡ false → Removed p v (removed clock p v)
-is_removed clock p v s top =
-    let t : DestroyedAll (living_under v p) v (removed clock p v) = all_destroyed v s clock (living_under v p)
-    (IsStrictlySortedBy-filter path_cmp (λ q. is_alive v q && is_under q p) (keys_of v.stacks) s.tree.stacks_ordered)
-    (all_filter (λ q. (is_alive v q ≡ true) × (is_host q ≡ false)) (λ q. is_alive v q && is_under q p) (λ q e. ((and_parts _ _ e).0, not_host_under q p top (and_parts _ _ e).1)) (keys_of v.stacks))
-    whole in
-    record {
-      fine = record {
-        sound = t.sound;
-        leaves = t.leaves;
-      };
-      alive = λ r. t.alive r ∙ ap (λ b. is_alive v r && not b) (in_living_under v p r) ∙ only (is_alive v r) (is_under r p);
-    }
-  where
-    only : (a b : Bool) → (a && not (a && b)) ≡ (a && not b)
-    only a b = grind arith
+module _ (clock : ℕ) (p : Path) (v : World) (s : IsSound v) (top : is_host p ≡ false) where
+  sorted_under : IsStrictlySortedBy path_cmp (living_under v p)
+  sorted_under = IsStrictlySortedBy-filter path_cmp (λ q. is_alive v q && is_under q p) (keys_of v.stacks) s.tree.stacks_ordered
 
-    whole : IsWhole v s clock (living_under v p)
-    whole q r member alive below =
-        in_living_under v p r ∙ and_from (is_alive v r) (is_under r p) alive (under-trans r q p ((and_parts (is_under r q) (not (path_eq q r)) below).0) ((and_parts (is_alive v q) (is_under q p) (sym (in_living_under v p q) ∙ member)).1))
+  live_under : AllLive v s clock (living_under v p)
+  live_under =
+      all_filter (λ q. (is_alive v q ≡ true) × (is_host q ≡ false)) (λ q. is_alive v q && is_under q p)
+      (λ q e. ((and_parts _ _ e).0, not_host_under q p top (and_parts _ _ e).1)) (keys_of v.stacks)
+
+  whole_under : IsWhole v s clock (living_under v p)
+  whole_under q r member alive below =
+      in_living_under v p r ∙ and_from (is_alive v r) (is_under r p) alive
+      (under-trans r q p ((and_parts (is_under r q) (not (path_eq q r)) below).0)
+      ((and_parts (is_alive v q) (is_under q p) (sym (in_living_under v p q) ∙ member)).1))
+
+  pub is_removed : Removed p v (removed clock p v)
+  is_removed =
+      let t : DestroyedAll (living_under v p) v (removed clock p v) = all_destroyed v s clock (living_under v p) sorted_under live_under whole_under in
+      record {
+        fine = record { sound = t.sound; leaves = t.leaves };
+        alive = λ r. t.alive r ∙ ap (λ b. is_alive v r && not b) (in_living_under v p r) ∙ only (is_alive v r) (is_under r p);
+      }
+    where
+      only : (a b : Bool) → (a && not (a && b)) ≡ (a && not b)
+      only a b = grind arith
+
+  pub removed_at_home : DestroysAtHome clock p v
+  removed_at_home before q after e =
+      all_alone v s clock before q after (subst (IsStrictlySortedBy path_cmp) e sorted_under) (subst (AllLive v s clock) e live_under)
+      (subst (IsWhole v s clock) e whole_under)
