@@ -4,6 +4,7 @@ pub mod Moved
 pub mod Kept
 pub mod Trees
 pub mod Fine
+pub mod Far
 pub mod Alike
 pub mod RulesAlike
 pub mod Belongs

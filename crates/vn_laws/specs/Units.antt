@@ -1,7 +1,8 @@
--- The unit of a pair that is made without one.
-use Rattle.std.specs.Prelude.{◌≡◌, ℕ, ◌<◌, true, false, Option, Some, None}
+-- The unit of a pair that is made without one, and how far a pair reaches.
+use Rattle.std.specs.Prelude.{◌≡◌, ◌≢◌, ℕ, ◌<◌, true, false, Option, Some, None}
 use Rattle.vn_cells.specs.declared.world.World.{World}
-use Rattle.vn_cells.specs.world.Names.{Path}
+use Rattle.vn_cells.specs.world.Names.{Path, Key}
+use Rattle.vn_cells.specs.world.World.{stack_at, pair_at}
 use Rattle.vn_cells.specs.commands.Taken.{units, is_unit_free}
 
 -- a unit is free, and none below it
@@ -21,3 +22,12 @@ NoneFree w p = (n : ℕ) → n < units → is_unit_free w p n ≡ false
 abbrev pub IsLowestFree : World → Path → Option ℕ → Type 0
 IsLowestFree w p None = NoneFree w p
 IsLowestFree w p (Some unit) = IsLowest w p unit
+
+-- nothing changes but a pair and the stacks of two paths
+pub record ChangesPair (k : Key) (p q : Path) (old new : World) : Type 0 where
+  -- what all cells share is as it was
+  pub clock : new.clock ≡ old.clock
+  -- every other stack
+  pub stacks : (r : Path) → r ≢ p → r ≢ q → stack_at new r ≡ stack_at old r
+  -- every other pair
+  pub pairs : (j : Key) → j ≢ k → pair_at new j ≡ pair_at old j

@@ -27,7 +27,7 @@ module _ (v : World) where
   unfolding made_pair
   goes-made_pair k = goes-then (goes-add_pair v k (new_pair k)) (goes-then (goes-edit_live _ k.0 _) (goes-edit_live _ k.0 _))
 
-  goes-unmade : (k : Key) (o : Option Pair) → Goes v (unmade k o v)
+  pub goes-unmade : (k : Key) (o : Option Pair) → Goes v (unmade k o v)
   unfolding unmade
   goes-unmade k None = goes-none v
   goes-unmade k (Some pair) = goes-then (goes-edit_live v pair.a.at _) (goes-then (goes-edit_live _ pair.b.at _) (goes-drop_pair _ k))

@@ -31,21 +31,21 @@ use Rattle.vn_laws.proofs.pairs.Listed.{count, count-last, has-count}
 use Rattle.vn_laws.proofs.pairs.Parts.{attached-sound, attached-forgets}
 use Rattle.vn_laws.proofs.pairs.Cut.{changed, changed_tree, changed_passes, changed_ifs, forgets_there}
 
-abbrev two : Path → ℕ → Bool → Stack → Stack
+abbrev pub two : Path → ℕ → Bool → Stack → Stack
 two p unit b s = changed (attached (half_on B (p, unit))) b (changed (attached (half_on A (p, unit))) b s)
 
 abbrev two_more : Path → ℕ → Bool → List If → List If
 two_more p unit b hs = if b then (hs ++ OfHalf (half_on A (p, unit)) ∷ []) ++ OfHalf (half_on B (p, unit)) ∷ [] else hs
 
 module _ (p : Path) (unit : ℕ) (v : World) where
-  made_stack : (q : Path) → stack_at (made_pair (p, unit) v) q ≡ two p unit (path_eq q p) (stack_at v q)
+  pub made_stack : (q : Path) → stack_at (made_pair (p, unit) v) q ≡ two p unit (path_eq q p) (stack_at v q)
   unfolding made_pair
   made_stack q =
       stack_at-edit_live p (on_parts (attached (half_on B (p, unit)))) _ q
       ∙ ap (changed (attached (half_on B (p, unit))) (path_eq q p)) (stack_at-edit_live p (on_parts (attached (half_on A (p, unit)))) _ q
       ∙ ap (changed (attached (half_on A (p, unit))) (path_eq q p)) (stack_at-add_pair (p, unit) (new_pair (p, unit)) v q))
 
-  made_at : (k : Key) → pair_at (made_pair (p, unit) v) k ≡ (if key_eq k (p, unit) then Some (new_pair (p, unit)) else pair_at v k)
+  pub made_at : (k : Key) → pair_at (made_pair (p, unit) v) k ≡ (if key_eq k (p, unit) then Some (new_pair (p, unit)) else pair_at v k)
   unfolding made_pair
   made_at k = pair_at-each_stack _ _ k ∙ pair_at-each_stack _ _ k ∙ pair_at-add_pair (p, unit) (new_pair (p, unit)) v k
 
