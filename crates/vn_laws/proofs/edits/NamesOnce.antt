@@ -16,35 +16,13 @@ use Rattle.vn_cells.specs.world.World.{stack_at, pair_at, is_alive, ifs_of}
 use Rattle.vn_cells.specs.keeping.Standing.{stands_at, times, times_listed}
 use Rattle.vn_cells.specs.keeping.Sound.{IsSound}
 use Rattle.vn_cells.specs.keeping.Clean.{has_name}
-use Rattle.vn_laws.proofs.edits.Names.{half_eq-Decides}
-
-if_eq-refl : (i : If) → if_eq i i ≡ true
-if_eq-refl Lo0 = refl
-if_eq-refl (OfHalf h) = (half_eq-Decides h h).1 refl
+use Rattle.vn_laws.proofs.pairs.Listed.{if_eq-refl, has-count}
 
 abbrev has : List If → If → Bool
 has ifs i = list_any (if_eq i) ifs
 
 count-cons : (test : If → Bool) (i : If) (ifs : List If) → count_by test (i ∷ ifs) ≡ times (test i) + count_by test ifs
 count-cons test i ifs = sum_by-cons (λ k. cond (test k) 1 0) i ifs
-
--- what is not there is counted no time
-none_counted : (i : If) (ifs : List If) → has ifs i ≡ false → count_by (if_eq i) ifs ≡ 0
-none_counted i [] none = refl
-none_counted i (k ∷ ifs) none = count-cons (if_eq i) k ifs ∙ by (if_eq i k) none (none_counted i ifs)
-  where
-    by : (b : Bool) → (b || has ifs i) ≡ false → (has ifs i ≡ false → count_by (if_eq i) ifs ≡ 0) → times b + count_by (if_eq i) ifs ≡ 0
-    by true e more = cc
-    by false e more = let n = more e in omega arith
-
--- what is counted no time is not there
-none_there : (i : If) (ifs : List If) → count_by (if_eq i) ifs ≡ 0 → has ifs i ≡ false
-none_there i [] none = refl
-none_there i (k ∷ ifs) none = by (if_eq i k) (sym (count-cons (if_eq i) k ifs) ∙ none) (none_there i ifs)
-  where
-    by : (b : Bool) → times b + count_by (if_eq i) ifs ≡ 0 → (count_by (if_eq i) ifs ≡ 0 → has ifs i ≡ false) → (b || has ifs i) ≡ false
-    by true e more = absurd (omega arith)
-    by false e more = more (omega arith)
 
 module _ (unit : ℕ) (side : Side) where
   abbrev named : If → Bool
@@ -82,7 +60,7 @@ module _ (unit : ℕ) (side : Side) where
       by : (b : Bool) → named i ≡ b → count_by named ifs ≤ 1 → times b + count_by named ifs ≤ 1
       by true e ih =
           let none : count_by named ifs ≡ 0 = none_named ifs (λ k a n.
-          true≢false (sym (subst (λ l. has ifs l ≡ true) (same k i (or_right (if_eq k i) (has ifs k) a) (first i ifs) n e) a) ∙ none_there i ifs gone)) in
+          true≢false (sym (subst (λ l. has ifs l ≡ true) (same k i (or_right (if_eq k i) (has ifs k) a) (first i ifs) n e) a) ∙ has-count i ifs false gone)) in
           omega arith
       by false e ih = omega arith
 
@@ -98,23 +76,15 @@ module _ {w : World} (s : IsSound w) (p : Path) where
       by Lo0 = once (is_alive w p)
       by (OfHalf h) = once (stands_at p h.side (pair_at w (key_of h)))
 
-  -- what is listed stands there
-  pub listed_stands : (h : Half) → has (ifs_of (stack_at w p)) (OfHalf h) ≡ true → stands_at p h.side (pair_at w (key_of h)) ≡ true
-  listed_stands h there = by (stands_at p h.side (pair_at w (key_of h))) refl
-    where
-      by : (b : Bool) → stands_at p h.side (pair_at w (key_of h)) ≡ b → b ≡ true
-      by true e = refl
-      by false e =
-          absurd (true≢false (sym there ∙ none_there (OfHalf h) (ifs_of (stack_at w p)) (s.standing.listed p (OfHalf h) ∙ ap times e)))
+  -- a half is listed where it stands
+  listed_there : (h : Half) → has (ifs_of (stack_at w p)) (OfHalf h) ≡ stands_at p h.side (pair_at w (key_of h))
+  listed_there h = has-count (OfHalf h) (ifs_of (stack_at w p)) _ (s.standing.listed p (OfHalf h))
 
-  -- what is not listed does not
+  pub listed_stands : (h : Half) → has (ifs_of (stack_at w p)) (OfHalf h) ≡ true → stands_at p h.side (pair_at w (key_of h)) ≡ true
+  listed_stands h there = sym (listed_there h) ∙ there
+
   pub unlisted_stands : (h : Half) → has (ifs_of (stack_at w p)) (OfHalf h) ≡ false → stands_at p h.side (pair_at w (key_of h)) ≡ false
-  unlisted_stands h out =
-      by (stands_at p h.side (pair_at w (key_of h))) (sym (s.standing.listed p (OfHalf h)) ∙ none_counted (OfHalf h) (ifs_of (stack_at w p)) out)
-    where
-      by : (b : Bool) → times b ≡ 0 → b ≡ false
-      by true e = cc
-      by false e = refl
+  unlisted_stands h out = sym (listed_there h) ∙ out
 
   pub name_once : (unit : ℕ) (side : Side) → count_by (has_name unit side) (ifs_of (stack_at w p)) ≤ 1
   name_once unit side = at_most_one unit side (ifs_of (stack_at w p)) few same

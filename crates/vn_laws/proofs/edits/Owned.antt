@@ -56,7 +56,7 @@ module _ (set : Cells) where
   owns-cons (OfHalf h) ifs = refl
 
   -- those that pass a test
-  pub owns-filter : (f : If → Bool) (ifs : List If) → owns_ifs set ifs ≡ true → owns_ifs set (filter f ifs) ≡ true
+  owns-filter : (f : If → Bool) (ifs : List If) → owns_ifs set ifs ≡ true → owns_ifs set (filter f ifs) ≡ true
   owns-filter f [] all = refl
   owns-filter f (on ∷ ifs) all =
       let parts = and_parts _ _ (sym (owns-cons on ifs) ∙ all) in
@@ -68,7 +68,7 @@ module _ (set : Cells) where
       by false own ih = ih
 
   -- one more
-  pub owns-last : (h : Half) (ifs : List If) → in_pairs set (key_of h) ≡ true → owns_ifs set ifs ≡ true
+  owns-last : (h : Half) (ifs : List If) → in_pairs set (key_of h) ≡ true → owns_ifs set ifs ≡ true
       → owns_ifs set (ifs ++ OfHalf h ∷ []) ≡ true
   owns-last h [] own all = and_from _ _ own refl
   owns-last h (on ∷ ifs) own all =

@@ -33,7 +33,7 @@ home_row = record {
 
 module _ (p : Path) (clock : ℕ) (v : World) (s : IsSound v) (alive : is_alive v p ≡ true) where
   -- the world when its destructor has run, with its entry
-  abbrev pub homeward : World
+  abbrev homeward : World
   homeward = torn_down clock p (home_row ∷ []) v
 
   back_home : Returned p v (sent_home p (lent_here v p) v)
@@ -52,7 +52,7 @@ module _ (p : Path) (clock : ℕ) (v : World) (s : IsSound v) (alive : is_alive 
     lowest_home r e = lowest r (sym (alive_tree stays_home.tree r) ∙ e)
 
     -- the pairs that are homed there stand there
-    pub alone_home : HomeAlone p homeward
+    alone_home : HomeAlone p homeward
     alone_home = home_alone stays_home.fine.sound p lowest_home
 
     -- a stack below which nothing lives: first the halves that are lent to it go home, and what follows is its own

@@ -52,14 +52,14 @@ same_homed v w s t p e =
 
 -- ---- what the destructors reach
 
-pub twins-sent_home : {set : Cells} {v w : World} → Twins set v w → (p : Path) (hs : List Half)
+twins-sent_home : {set : Cells} {v w : World} → Twins set v w → (p : Path) (hs : List Half)
     → Twins set (sent_home p hs v) (sent_home p hs w)
 unfolding sent_home
 twins-sent_home t p [] = t
 twins-sent_home {set} {v} {w} t p (h ∷ hs) =
     twins-sent_home {v = moved h p h.home v} {w = moved h p h.home w} (twins-moved t h p h.home) p hs
 
-pub twins-without_pairs : {set : Cells} {v w : World} → Twins set v w → (ks : List Key)
+twins-without_pairs : {set : Cells} {v w : World} → Twins set v w → (ks : List Key)
     → list_all (in_pairs set) ks ≡ true → Twins set (without_pairs ks v) (without_pairs ks w)
 unfolding without_pairs
 twins-without_pairs t [] own = t
@@ -101,7 +101,7 @@ module _ (set : Cells) (clock : ℕ) (p : Path) (inside : in_stacks set p ≡ tr
   twins-destroyed : {v w : World} → Twins set v w → Twins set (destroyed clock p v) (destroyed clock p w)
   twins-destroyed t = twins-killed (twins-torn_down t rows)
 
-pub twins-destroyed_all : {set : Cells} {v w : World} → Twins set v w → (clock : ℕ) (ps : List Path)
+twins-destroyed_all : {set : Cells} {v w : World} → Twins set v w → (clock : ℕ) (ps : List Path)
     → list_all (in_stacks set) ps ≡ true → Twins set (destroyed_all clock ps v) (destroyed_all clock ps w)
 unfolding destroyed_all
 twins-destroyed_all t clock [] inside = t
@@ -124,7 +124,7 @@ same_under {set} {v} {w} a b c p inside top q under = by (in_stacks set q) refl
     by true e = ap (λ (s : Stack). is_some s.live) (sym (a.stacks q e))
     by false e = dead w c e (is_alive w q) refl ∙ sym (dead v b e (is_alive v q) refl)
 
-pub twins-removed : {set : Cells} {v w : World} → Twins set v w → Belongs set v → Belongs set w → IsSound v → IsSound w
+twins-removed : {set : Cells} {v w : World} → Twins set v w → Belongs set v → Belongs set w → IsSound v → IsSound w
     → (clock : ℕ) (p : Path) → in_stacks set p ≡ true → is_host p ≡ false → Twins set (removed clock p v) (removed clock p w)
 twins-removed {set} {v} {w} t b c sv sw clock p inside top =
     subst (λ ps. Twins set (removed clock p v) (destroyed_all clock ps w))

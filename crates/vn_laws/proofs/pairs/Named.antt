@@ -23,7 +23,7 @@ use Rattle.vn_cells.specs.keeping.Standing.{stands_at, is_placed}
 use Rattle.vn_laws.proofs.edits.Names.{half_eq-Decides}
 use Rattle.vn_laws.proofs.edits.NamesOnce.{listed_stands, unlisted_stands}
 
-abbrev pub has_ifname : IfName → If → Bool
+abbrev has_ifname : IfName → If → Bool
 has_ifname name on = ifname_eq (if_name half_name on) name
 
 -- what is found has the name, and is listed

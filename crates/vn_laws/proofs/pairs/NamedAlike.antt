@@ -100,7 +100,7 @@ module _ {set : Cells} {v w : World} (a : Alike set v w) where
   -- ---- where the deciders of a pair are in the set
 
   module _ (sv : IsSound v) (sw : IsSound w) (issuer : Path) (unit : ℕ) (all : PairInside set issuer unit) where
-    pub pair_alike : pair_at v (issuer, unit) ≡ pair_at w (issuer, unit)
+    pair_alike : pair_at v (issuer, unit) ≡ pair_at w (issuer, unit)
     pair_alike = a.pairs (issuer, unit) (inside_pair set issuer unit all)
 
     pub standing_alike : (side : Side) → standing v issuer (ifname.Epair unit side) ≡ standing w issuer (ifname.Epair unit side)
