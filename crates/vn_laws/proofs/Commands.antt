@@ -1,5 +1,5 @@
 -- The commands that reach beyond their stack: the index of what is proved of their rules, one line a kind and property.
-use Rattle.std.proofs.Common.{◌≡◌, ℕ, Bool, true, false, ◌&&◌, ◌||◌, not, List, None, Option, Some, refl, sym, ap, ◌∙◌, subst, [], ◌∷◌}
+use Rattle.std.proofs.Common.{◌≡◌, ℕ, Bool, true, false, ◌||◌, not, List, None, Option, Some, refl, sym, subst, [], ◌∷◌}
 use Rattle.std.specs.Prelude.{if◌then◌else◌, ◌+◌, ◌++◌, nat_le, nat_lt, length}
 use Rattle.std.specs.List.{list_all}
 use Rattle.std.proofs.lemmas.Bool.{and_parts, or_left, or_right, not-true}
@@ -30,7 +30,7 @@ use Rattle.vn_laws.proofs.edits.Lived.{Lived, lived-same, lived-fewer, lived-bor
 use Rattle.vn_laws.proofs.edits.Owned.{own_pair}
 use Rattle.vn_laws.proofs.edits.Paths.{under-append, append-not_host}
 use Rattle.vn_laws.proofs.edits.Tests.{not_false}
-use Rattle.vn_laws.proofs.edits.Trees.{SameTree, alive_tree}
+use Rattle.vn_laws.proofs.edits.Trees.{alive_tree}
 use Rattle.vn_laws.proofs.edits.Twins.{twins-sound}
 use Rattle.vn_laws.proofs.rule.Alike.{AlikeRules}
 use Rattle.vn_laws.proofs.rule.Conditions.{none_of_two}

@@ -1,5 +1,5 @@
 -- Edits that leave the clock as it is, and under which transcripts go on.
-use Rattle.std.proofs.Common.{◌≡◌, ℕ, ◌≤◌, Bool, true, false, length, refl, sym, ap, ◌∙◌, subst, arith}
+use Rattle.std.proofs.Common.{◌≡◌, ◌≤◌, Bool, true, false, length, refl, sym, ◌∙◌, subst, arith}
 use Rattle.std.specs.Prelude.{if◌then◌else◌}
 use Rattle.vn_cells.specs.declared.world.Live.{Live}
 use Rattle.vn_cells.specs.declared.world.Pair.{Pair}
@@ -7,7 +7,7 @@ use Rattle.vn_cells.specs.declared.world.Stack.{Stack}
 use Rattle.vn_cells.specs.declared.world.World.{World}
 use Rattle.vn_cells.specs.world.Names.{Path, Key, path_eq}
 use Rattle.vn_cells.specs.world.World.{no_stack, stack_at, live_map, edit_stack, each_stack, edit_live, add_pair, drop_pair, each_pair}
-use Rattle.vn_laws.proofs.edits.Cells.{none_lives, stack_at-edit_stack, stack_at-each_stack, clock-edit_stack, clock-each_stack, clock-add_pair, clock-drop_pair, clock-each_pair}
+use Rattle.vn_laws.proofs.edits.Cells.{none_lives, stack_at-edit_stack, stack_at-each_stack, clock-edit_stack, clock-each_stack}
 
 -- the stack has as many entries as the other, or more
 abbrev pub TellsMore : Stack → Stack → Type 0

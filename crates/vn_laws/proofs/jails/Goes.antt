@@ -1,24 +1,22 @@
 -- The clock and the transcripts under commands on pairs, moves and jails.
-use Rattle.std.proofs.Common.{◌≡◌, ℕ, ◌≤◌, Bool, true, false, List, [], ◌∷◌, length, length-append, Option, Some, None, refl, arith}
+use Rattle.std.proofs.Common.{◌≡◌, ℕ, Bool, true, false, List, [], ◌∷◌, length-append, Option, Some, None, refl, arith}
 use Rattle.std.specs.Prelude.{if◌then◌else◌}
 use Rattle.std.specs.List.{list_any}
 use Rattle.vn_types.specs.declared.address.Mac.{Mac}
 use Rattle.vn_types.specs.declared.half.Half.{Half}
 use Rattle.vn_types.specs.declared.interface.IfOf.TheVariants.{Lo0, Half as OfHalf}
-use Rattle.vn_types.specs.declared.interface.Side.TheVariants.{A, B}
 use Rattle.vn_rules.specs.Construction.{RowOf, DownOf, Clears, SendsHome, DestroysHomed}
-use Rattle.vn_cells.specs.declared.transcript.Entry.{Entry}
 use Rattle.vn_cells.specs.declared.transcript.What.{What}
 use Rattle.vn_cells.specs.declared.transcript.What.TheVariants.{Uninit}
 use Rattle.vn_cells.specs.declared.world.Pair.{Pair}
 use Rattle.vn_cells.specs.declared.world.Stack.{Stack}
 use Rattle.vn_cells.specs.declared.world.World.{World}
-use Rattle.vn_cells.specs.world.Names.{Path, Key, If, key_of, half_on, path_eq, above}
+use Rattle.vn_cells.specs.world.Names.{Path, Key, If, key_of, path_eq, above}
 use Rattle.vn_cells.specs.world.World.{no_stack, pair_at, noting, noted, entry_of, live_map, on_parts}
-use Rattle.vn_cells.specs.commands.Jails.{rows, recount, recount_above, one_less}
-use Rattle.vn_cells.specs.commands.Pairs.{attached, detached, new_pair, made_pair, unmade, destroyed_pair, destroyed_by, with_mac_on}
+use Rattle.vn_cells.specs.commands.Jails.{rows, recount, one_less}
+use Rattle.vn_cells.specs.commands.Pairs.{new_pair, made_pair, unmade, destroyed_pair, destroyed_by, with_mac_on}
 use Rattle.vn_cells.specs.commands.Moves.{moved, moved_on}
-use Rattle.vn_cells.specs.commands.Removal.{lent_here, homed_at, sent_home, without_pairs, run_down, torn_down, killed, destroyed, living_under, destroyed_all, removed}
+use Rattle.vn_cells.specs.commands.Removal.{lent_here, homed_at, sent_home, without_pairs, run_down, torn_down, killed, living_under, destroyed_all, removed}
 use Rattle.vn_laws.proofs.edits.Cells.{none_lives}
 use Rattle.vn_laws.proofs.edits.Goes.{TellsMore, Goes, goes-none, goes-then, goes-edit_stack, goes-each_stack, goes-edit_live, goes-add_pair, goes-drop_pair, goes-each_pair}
 

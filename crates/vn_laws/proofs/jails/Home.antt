@@ -1,5 +1,5 @@
 -- Halves that are lent to a stack go home.
-use Rattle.std.proofs.Common.{◌≡◌, ℕ, ◌+◌, ◌≤◌, Bool, true, false, cond, ◌&&◌, ◌||◌, not, List, [], ◌∷◌, Option, Some, None, length, refl, sym, ap, ◌∙◌, subst, arith}
+use Rattle.std.proofs.Common.{◌≡◌, ℕ, ◌+◌, ◌≤◌, Bool, true, false, cond, ◌&&◌, ◌||◌, not, List, [], ◌∷◌, Option, Some, None, refl, sym, ap, ◌∙◌, subst, arith}
 use Rattle.std.specs.Prelude.{filter, count_by}
 use Rattle.std.specs.Option.{is_some}
 use Rattle.std.specs.List.{list_all}
@@ -7,16 +7,15 @@ use Rattle.std.proofs.lemmas.Bool.{and_parts, and_from, not-true, true≢false}
 use Rattle.std.proofs.lemmas.List.Sums.{sum_by-cons}
 use Rattle.vn_types.specs.declared.half.Half.{Half}
 use Rattle.vn_types.specs.declared.interface.IfOf.TheVariants.{Lo0, Half as OfHalf}
-use Rattle.vn_types.specs.PathOrder.{path_eq-Decides}
 use Rattle.vn_types.proofs.Ancestors.{passes-above}
 use Rattle.vn_cells.specs.declared.transcript.What.{What}
 use Rattle.vn_cells.specs.declared.world.Pair.{Pair}
 use Rattle.vn_cells.specs.declared.world.World.{World}
-use Rattle.vn_cells.specs.world.Names.{Path, If, key_of, half_eq, if_eq, has_half, halves_of, path_eq, is_under}
-use Rattle.vn_cells.specs.world.World.{stack_at, pair_at, is_alive, ifs_of, end_of, noted}
+use Rattle.vn_cells.specs.world.Names.{Path, If, key_of, half_eq, if_eq, has_half, halves_of, path_eq}
+use Rattle.vn_cells.specs.world.World.{stack_at, pair_at, is_alive, ifs_of, noted}
 use Rattle.vn_cells.specs.commands.Moves.{moved}
 use Rattle.vn_cells.specs.commands.Removal.{lent_here, sent_home}
-use Rattle.vn_cells.specs.keeping.Standing.{stands_at, is_placed, times}
+use Rattle.vn_cells.specs.keeping.Standing.{stands_at, times}
 use Rattle.vn_cells.specs.keeping.Sound.{IsSound}
 use Rattle.vn_laws.proofs.edits.Names.{half_eq-Decides, half_eq-refl, same_half}
 use Rattle.vn_laws.proofs.edits.Paths.{under-refl}
@@ -25,7 +24,7 @@ use Rattle.vn_laws.proofs.edits.Shapes.{shape-edit_stack, sound-shape, leaves-sh
 use Rattle.vn_laws.proofs.edits.Fine.{Fine, fine-none, fine-then}
 use Rattle.vn_laws.proofs.edits.Trees.{SameTree, alive_tree, tree-trans}
 use Rattle.vn_laws.proofs.pairs.Named.{standing_under}
-use Rattle.vn_laws.proofs.pairs.Listed.{has, has-count, has_half-has}
+use Rattle.vn_laws.proofs.pairs.Listed.{has-count, has_half-has}
 use Rattle.vn_laws.proofs.moves.Ends.{stands_other, stands_own}
 use Rattle.vn_laws.proofs.moves.Moved.{moved_tree, moved_pair}
 use Rattle.vn_laws.proofs.moves.Kept.{IsFree, sound-moved, leaves-moved}

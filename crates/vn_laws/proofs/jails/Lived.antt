@@ -1,5 +1,5 @@
 -- Who lives after a removal lived before.
-use Rattle.std.proofs.Common.{◌≡◌, ℕ, Bool, true, false, ◌&&◌, not, List, [], ◌∷◌, refl, sym, ap, ◌∙◌}
+use Rattle.std.proofs.Common.{◌≡◌, ℕ, true, not, List, [], ◌∷◌, refl, sym, ap, ◌∙◌}
 use Rattle.std.proofs.lemmas.Bool.{and_parts}
 use Rattle.vn_types.specs.declared.half.Half.{Half}
 use Rattle.vn_rules.specs.declared.parts.PartsOf.{PartsOf}
@@ -7,7 +7,7 @@ use Rattle.vn_rules.specs.Construction.{RowOf, DownOf, Clears, SendsHome, Destro
 use Rattle.vn_cells.specs.declared.transcript.What.TheVariants.{Uninit}
 use Rattle.vn_cells.specs.declared.world.World.{World}
 use Rattle.vn_cells.specs.world.Names.{Path, Key, path_eq}
-use Rattle.vn_cells.specs.world.World.{stack_at, is_alive, on_parts, noting, entry_of, noted, edit_live}
+use Rattle.vn_cells.specs.world.World.{stack_at, is_alive, on_parts, noting, entry_of, edit_live}
 use Rattle.vn_cells.specs.commands.Jails.{rows}
 use Rattle.vn_cells.specs.commands.Moves.{moved}
 use Rattle.vn_cells.specs.commands.Pairs.{destroyed_pair}

@@ -2,7 +2,7 @@
 use Rattle.std.proofs.Common.{◌≡◌, Bool, true, false, Option, Some, None, refl, sym, ap, ◌∙◌}
 use Rattle.vn_types.specs.declared.half.Half.{Half}
 use Rattle.vn_types.specs.declared.interface.IfName.{IfName}
-use Rattle.vn_rules.specs.Rules.{Common, answer}
+use Rattle.vn_rules.specs.Rules.{Common}
 use Rattle.vn_rules.specs.Scenes.{SceneOf, is_sound_scene}
 use Rattle.vn_rules.specs.LinkCommands.{set_up}
 use Rattle.vn_rules.proofs.LinkLaws.{set_up-parts, set_up-sound}

@@ -1,5 +1,5 @@
 -- Halves that are lent and reclaimed by a command that isn't refused: the world stays sound, and nothing is left behind.
-use Rattle.std.proofs.Common.{◌≡◌, ℕ, ◌==◌, Bool, true, false, ◌&&◌, ◌||◌, not, Option, Some, None, refl, sym, ap, ap₂, ◌∙◌}
+use Rattle.std.proofs.Common.{◌≡◌, ◌==◌, Bool, true, false, ◌&&◌, not, Option, Some, None, refl, sym, ap, ap₂, ◌∙◌}
 use Rattle.std.specs.Option.{is_some, is_none}
 use Rattle.std.proofs.lemmas.Bool.{and_parts, true≢false}
 use Rattle.std.proofs.lemmas.Bool.Decides.{Decides-eqb}
@@ -8,13 +8,12 @@ use Rattle.vn_types.specs.declared.half.Half.{Half}
 use Rattle.vn_types.specs.declared.interface.IfName.{IfName}
 use Rattle.vn_types.specs.declared.interface.IfName.TheVariants.{Lo0, Epair}
 use Rattle.vn_types.specs.declared.interface.IfOf.TheVariants.{Lo0 as OfLo0, Half as OfHalf}
-use Rattle.vn_types.specs.declared.interface.Side.{Side}
 use Rattle.vn_types.specs.Interfaces.{side_eq}
 use Rattle.vn_types.specs.PathOrder.{path_eq-Decides}
 use Rattle.vn_types.specs.Refusals.{first_refusal}
 use Rattle.vn_rules.specs.Named.{ifname_eq, is_lo0}
 use Rattle.vn_cells.specs.declared.world.World.{World}
-use Rattle.vn_cells.specs.world.Names.{Path, If, if_eq, key_of, half_name, path_eq, is_under}
+use Rattle.vn_cells.specs.world.Names.{Path, If, key_of, half_name, is_under}
 use Rattle.vn_cells.specs.world.World.{stack_at, pair_at, is_alive, ifs_of}
 use Rattle.vn_cells.specs.commands.Taken.{standing, is_another, is_reserved, is_native, is_taken, may_have}
 use Rattle.vn_cells.specs.commands.Moves.{moved_on, lending, reclaiming}

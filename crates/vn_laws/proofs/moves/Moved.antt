@@ -10,7 +10,7 @@ use Rattle.vn_rules.specs.Soundness.{is_sound_parts}
 use Rattle.vn_cells.specs.declared.world.Live.{Live}
 use Rattle.vn_cells.specs.declared.world.Stack.{Stack}
 use Rattle.vn_cells.specs.declared.world.World.{World}
-use Rattle.vn_cells.specs.world.Names.{Path, Key, If, path_cmp, key_cmp, key_of, half_eq, if_eq, path_eq}
+use Rattle.vn_cells.specs.world.Names.{Path, Key, If, path_cmp, key_cmp, half_eq, if_eq, path_eq}
 use Rattle.vn_cells.specs.world.World.{stack_at, pair_at, ifs_of, on_parts}
 use Rattle.vn_cells.specs.commands.Pairs.{attached, detached}
 use Rattle.vn_cells.specs.commands.Moves.{moved}
@@ -18,7 +18,7 @@ use Rattle.vn_cells.specs.keeping.Standing.{passes, times}
 use Rattle.vn_cells.specs.keeping.Moved.{forgets}
 use Rattle.vn_laws.proofs.edits.Cells.{stack_at-edit_live, stack_at-each_pair, pair_at-each_stack, pair_at-each_pair, ordered-each_stack, ordered_pairs-each_pair, Ordered, OrderedPairs, stacks-each_pair, pairs-each_stack}
 use Rattle.vn_laws.proofs.edits.Trees.{SameTree, tree_of}
-use Rattle.vn_laws.proofs.pairs.Listed.{but, count, count-last, if_eq-refl, has}
+use Rattle.vn_laws.proofs.pairs.Listed.{count, count-last, if_eq-refl, has}
 use Rattle.vn_laws.proofs.pairs.Parts.{attached-sound, attached-forgets}
 use Rattle.vn_laws.proofs.pairs.Cut.{changed, changed_tree, changed_passes, changed_ifs, cut, cut_ifs, ifs_cut, sound_cut, forgets_cut, own_cut, count_cut, count_cut-own}
 use Rattle.vn_laws.proofs.moves.Ends.{shifted}

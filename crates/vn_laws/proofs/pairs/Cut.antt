@@ -1,5 +1,5 @@
 -- A stack whose tables change, where a half is attached or taken out.
-use Rattle.std.proofs.Common.{◌≡◌, Bool, true, false, List, ◌++◌, ◌∷◌, [], Option, Some, None, refl, sym, ap, ◌∙◌}
+use Rattle.std.proofs.Common.{◌≡◌, Bool, true, false, List, Option, Some, None, refl, sym, ap, ◌∙◌}
 use Rattle.std.specs.Prelude.{if◌then◌else◌}
 use Rattle.std.specs.Option.{is_some}
 use Rattle.std.proofs.lemmas.Bool.{true≢false}
@@ -11,8 +11,8 @@ use Rattle.vn_cells.specs.declared.world.Live.{Live}
 use Rattle.vn_cells.specs.declared.world.Stack.{Stack}
 use Rattle.vn_cells.specs.world.Names.{If, if_eq, half_eq}
 use Rattle.vn_cells.specs.world.World.{ifs_of, live_map, on_parts}
-use Rattle.vn_cells.specs.commands.Pairs.{attached, detached}
-use Rattle.vn_cells.specs.keeping.Standing.{passes, times}
+use Rattle.vn_cells.specs.commands.Pairs.{detached}
+use Rattle.vn_cells.specs.keeping.Standing.{passes}
 use Rattle.vn_cells.specs.keeping.Moved.{forgets}
 use Rattle.vn_laws.proofs.edits.Trees.{tree_of}
 use Rattle.vn_laws.proofs.pairs.Listed.{but, count, has, count-but, if_eq-refl}

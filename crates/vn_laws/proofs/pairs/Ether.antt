@@ -19,7 +19,7 @@ use Rattle.vn_cells.specs.commands.Pairs.{with_mac, with_mac_on}
 use Rattle.vn_cells.specs.keeping.Standing.{passes, has_queues}
 use Rattle.vn_cells.specs.keeping.Sound.{IsSound}
 use Rattle.vn_cells.specs.keeping.Moved.{forgets, is_emptied}
-use Rattle.vn_laws.proofs.edits.Cells.{stack_at-each_pair, pair_at-each_pair, stacks-each_pair, ordered_pairs-each_pair, Ordered}
+use Rattle.vn_laws.proofs.edits.Cells.{stack_at-each_pair, pair_at-each_pair, stacks-each_pair, ordered_pairs-each_pair}
 use Rattle.vn_laws.proofs.edits.Fine.{Fine, fine-none}
 use Rattle.vn_laws.proofs.edits.Standing.{SameStanding, places, standing-same, named-same, same_place}
 use Rattle.vn_laws.proofs.edits.Trees.{SameTree, tree_of, tree-same}

@@ -1,6 +1,6 @@
 -- Pairs that are made and destroyed by a command that isn't refused: the world stays sound, and nothing is left behind.
-use Rattle.std.proofs.Common.{◌≡◌, ℕ, ◌==◌, Bool, true, false, ◌&&◌, not, Option, Some, None, refl, sym, ap, ◌∙◌}
-use Rattle.std.specs.Option.{is_some, is_none}
+use Rattle.std.proofs.Common.{◌≡◌, ℕ, true, not, Option, Some, None, refl, sym, ◌∙◌}
+use Rattle.std.specs.Option.{is_none}
 use Rattle.std.proofs.lemmas.Bool.{and_parts, and_from, not-true, true≢false}
 use Rattle.std.proofs.lemmas.Bool.Decides.{Decides-eqb}
 use Rattle.vn_types.specs.declared.half.Half.{Half}
@@ -9,7 +9,6 @@ use Rattle.vn_types.specs.declared.interface.IfName.TheVariants.{Epair}
 use Rattle.vn_types.specs.declared.interface.IfOf.TheVariants.{Lo0, Half as OfHalf}
 use Rattle.vn_types.specs.declared.interface.Side.{Side}
 use Rattle.vn_types.specs.declared.interface.Side.TheVariants.{A, B}
-use Rattle.vn_types.specs.Interfaces.{side_eq}
 use Rattle.vn_types.proofs.InterfaceNames.{side_eq-Decides}
 use Rattle.vn_rules.specs.Named.{ifname_eq}
 use Rattle.vn_cells.specs.declared.world.World.{World}

@@ -29,7 +29,7 @@ use Rattle.vn_laws.proofs.edits.Cells.{stack_at-edit_live, stack_at-add_pair, pa
 use Rattle.vn_laws.proofs.edits.Trees.{SameTree, tree_of, tree-same, alive_tree}
 use Rattle.vn_laws.proofs.pairs.Listed.{count, count-last, has-count}
 use Rattle.vn_laws.proofs.pairs.Parts.{attached-sound, attached-forgets}
-use Rattle.vn_laws.proofs.pairs.Cut.{changed, changed_tree, changed_passes, changed_ifs, forgets_there}
+use Rattle.vn_laws.proofs.pairs.Cut.{changed, changed_tree, changed_passes, forgets_there}
 
 abbrev pub two : Path → ℕ → Bool → Stack → Stack
 two p unit b s = changed (attached (half_on B (p, unit))) b (changed (attached (half_on A (p, unit))) b s)

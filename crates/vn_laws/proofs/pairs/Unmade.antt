@@ -1,5 +1,5 @@
 -- A pair that is destroyed: each world stays sound, and nothing is left behind.
-use Rattle.std.proofs.Common.{◌≡◌, Bool, true, false, ◌&&◌, List, Option, Some, None, refl, sym, ap, ◌∙◌, subst, ◌⊎◌, inl, inr}
+use Rattle.std.proofs.Common.{◌≡◌, Bool, true, false, Option, Some, None, refl, sym, ap, ◌∙◌, subst, ◌⊎◌, inl, inr}
 use Rattle.std.specs.Prelude.{if◌then◌else◌}
 use Rattle.std.specs.Option.{is_some}
 use Rattle.std.specs.Map.{keys_of}
@@ -14,8 +14,8 @@ use Rattle.vn_rules.specs.Soundness.{is_sound_parts}
 use Rattle.vn_cells.specs.declared.world.Pair.{Pair}
 use Rattle.vn_cells.specs.declared.world.Stack.{Stack}
 use Rattle.vn_cells.specs.declared.world.World.{World}
-use Rattle.vn_cells.specs.world.Names.{Path, Key, If, path_cmp, key_cmp, key_of, half_on, half_eq, if_eq, path_eq, key_eq, is_under}
-use Rattle.vn_cells.specs.world.World.{stack_at, pair_at, is_alive, ifs_of, end_of, place, on_parts}
+use Rattle.vn_cells.specs.world.Names.{Path, Key, If, path_cmp, key_cmp, key_of, half_on, half_eq, path_eq, key_eq}
+use Rattle.vn_cells.specs.world.World.{stack_at, pair_at, ifs_of, end_of, place, on_parts}
 use Rattle.vn_cells.specs.commands.Pairs.{detached, unmade, destroyed_pair}
 use Rattle.vn_cells.specs.keeping.Standing.{passes, stands_at, is_placed, times, times_listed, has_queues}
 use Rattle.vn_cells.specs.keeping.Sound.{IsSound}

@@ -1,5 +1,5 @@
 -- Conditions of which none holds.
-use Rattle.std.proofs.Common.{◌≡◌, Bool, true, false, List, [], ◌∷◌, Option, Some, None, refl}
+use Rattle.std.proofs.Common.{◌≡◌, Bool, true, false, [], ◌∷◌, Option, Some, None, refl}
 use Rattle.std.specs.Option.{is_some, is_none}
 use Rattle.vn_types.specs.Refusals.{first_refusal}
 
