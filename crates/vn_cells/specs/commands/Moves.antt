@@ -1,5 +1,5 @@
 -- ifconfig(8), vnet and -vnet: a half moves from a stack to another.
-use Rattle.std.specs.Prelude.{Bool, false, not, List, [], ◌∷◌, Option, Some, None}
+use Rattle.std.specs.Prelude.{false, not, [], ◌∷◌, Option, Some, None}
 use Rattle.std.specs.Option.{is_none}
 use Rattle.vn_types.specs.declared.errno.Errno.TheVariants as errno
 use Rattle.vn_types.specs.declared.half.Half.{Half}

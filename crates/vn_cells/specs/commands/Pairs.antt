@@ -1,5 +1,5 @@
 -- epair(4) and ifconfig(8): pairs are made and destroyed, and get hardware addresses.
-use Rattle.std.specs.Prelude.{ℕ, ◌/◌, ◌%◌, Bool, false, ◌||◌, not, nat_lt, List, [], ◌∷◌, Option, Some, None}
+use Rattle.std.specs.Prelude.{ℕ, ◌/◌, ◌%◌, false, ◌||◌, not, nat_lt, [], ◌∷◌, Option, Some, None}
 use Rattle.std.specs.Option.{is_none}
 use Rattle.vn_types.specs.declared.address.Mac.{Mac}
 use Rattle.vn_types.specs.declared.errno.Errno.TheVariants as errno
@@ -10,7 +10,6 @@ use Rattle.vn_types.specs.declared.interface.IfOf.TheVariants.{Lo0, Half as OfHa
 use Rattle.vn_types.specs.declared.interface.Side.{Side}
 use Rattle.vn_types.specs.declared.interface.Side.TheVariants.{A, B}
 use Rattle.vn_types.specs.InterfaceWords.{ifname_text}
-use Rattle.vn_rules.specs.declared.outcome.Outcome.{Outcome}
 use Rattle.vn_rules.specs.declared.outcome.Outcome.TheVariants.{Value}
 use Rattle.vn_rules.specs.declared.parts.PartsOf.{PartsOf}
 use Rattle.vn_rules.specs.Interfaces.{with_interface, without_interface}

@@ -1,7 +1,6 @@
 -- Which interface stands under a name, and which names and units are taken (ifconfig(8), epair(4)).
 use Rattle.std.specs.Prelude.{ℕ, zero, suc, ◌+◌, Bool, true, false, ◌&&◌, ◌||◌, not, Option, Some, None}
 use Rattle.std.specs.Option.{is_some, is_none}
-use Rattle.vn_types.specs.declared.half.Half.{Half}
 use Rattle.vn_types.specs.declared.interface.IfName.{IfName}
 use Rattle.vn_types.specs.declared.interface.IfName.TheVariants.{Lo0, Epair}
 use Rattle.vn_types.specs.declared.interface.IfOf.TheVariants.{Lo0 as OfLo0, Half as OfHalf}

@@ -1,5 +1,5 @@
 -- What each command does: the index of the rules, one line a command.
-use Rattle.std.specs.Prelude.{ℕ, Bool, true, false, [], Option, Some, None}
+use Rattle.std.specs.Prelude.{Bool, true, false, [], Option, Some, None}
 use Rattle.vn_types.specs.declared.interface.IfName.{IfName}
 use Rattle.vn_types.specs.declared.interface.IfName.TheVariants.{Lo0, Epair}
 use Rattle.vn_types.specs.declared.interface.IfOf.{IfOf}
