@@ -1,15 +1,20 @@
 -- The events that act in one stack: they are handed its scene and its readers, and give them back.
-use Rattle.std.specs.Prelude.{ℕ, List, [], ◌∷◌, ◌++◌, map, Option, Some, None, if◌then◌else◌}
+use Rattle.std.specs.Prelude.{ℕ, List, [], ◌∷◌, ◌++◌, map, length, Option, Some, None, if◌then◌else◌}
 use Rattle.std.specs.Option.{option_map}
 use Rattle.vn_types.specs.declared.half.Half.{Half}
 use Rattle.vn_types.specs.declared.interface.Side.TheVariants.{A, B}
+use Rattle.vn_types.specs.declared.errno.Errno.{Errno}
 use Rattle.vn_types.specs.declared.errno.Errno.TheVariants as errno
+use Rattle.vn_types.specs.Refusals.{first_refusal}
 use Rattle.vn_rules.specs.declared.parts.PartsOf.{PartsOf}
 use Rattle.vn_rules.specs.Rules.{Common, Answer, answer, refused}
+use Rattle.vn_rules.specs.declared.outcome.Outcome.{Outcome}
 use Rattle.vn_rules.specs.Scenes.{LinkOf, SceneOf, no_link, link_of}
 use Rattle.vn_cells.specs.declared.command.Command.{Command}
 use Rattle.vn_cells.specs.declared.event.Event.{Event}
 use Rattle.vn_cells.specs.declared.event.Event.TheVariants as event
+use Rattle.vn_cells.specs.declared.listing.IfRow.{IfRow}
+use Rattle.vn_cells.specs.declared.listing.Table.{Table}
 use Rattle.vn_cells.specs.declared.transcript.What.{What}
 use Rattle.vn_cells.specs.declared.transcript.What.TheVariants as what
 use Rattle.vn_cells.specs.declared.world.End.{End}
@@ -20,6 +25,9 @@ use Rattle.vn_cells.specs.declared.world.World.{World}
 use Rattle.vn_cells.specs.world.Names.{Path, Key, half_eq, half_name, halves_of, half_on, has_half}
 use Rattle.vn_cells.specs.world.World.{common_of, stack_at, ifs_of, end_at, entry_of, edit_stack, edit_live, each_pair}
 use Rattle.vn_cells.specs.machine.Commands.{near_rule}
+use Rattle.vn_cells.specs.machine.Listings.{if_rows, lines_of}
+use Rattle.vn_cells.specs.machine.Queues.{without_datagram}
+use Rattle.vn_cells.specs.machine.Readers.{reader_of, open_rule, next_rule, close_rule}
 
 -- what a local event is handed of the stack where it acts
 pub record Here : Type 0 where
@@ -30,7 +38,7 @@ pub record Here : Type 0 where
 
 -- what a local event leaves
 pub record Heard : Type 0 where
-  -- the scene, where there is one
+  -- the scene, where it may be another
   pub scene : Option (SceneOf Half)
   -- the open readers, where the transcript is told something
   pub readers : List Reader
@@ -61,6 +69,30 @@ here_at w p = record {
   scene = option_map (λ (live : Live). scene_in w live.parts) (stack_at w p).live;
   readers = (stack_at w p).readers;
 }
+
+-- ---- what is seen there
+
+-- the lines of a table, where there is a stack
+abbrev pub lines_here : Table → Option (SceneOf Half) → Option (List (List ℕ))
+lines_here table scene = option_map (lines_of half_eq half_name table) scene
+
+-- the lines of a table at a path, where it lives
+abbrev pub lines_at : World → Path → Table → Option (List (List ℕ))
+lines_at w p table = lines_here table (here_at w p).scene
+
+-- why a lane may not open a reader of a table at a path, if it may not
+abbrev pub open_refusal : World → ℕ → Path → Table → Option Errno
+open_refusal w lane p table =
+    first_refusal (open_rule lane (lines_at w p table) (stack_at w p).readers).refusals
+
+-- the interfaces at a path, where it lives
+abbrev pub listing_at : World → Path → Option (List IfRow)
+listing_at w p = option_map (if_rows half_eq half_name) (here_at w p).scene
+
+-- how many lines are left to a lane's reader at a path, where it has one
+abbrev pub lines_left : World → ℕ → Path → Option ℕ
+lines_left w lane p =
+    option_map (λ (reader : Reader). length reader.lines) (reader_of lane (stack_at w p).readers)
 
 -- ---- and back: places, liveness, limits and lists of interfaces are as they were
 
@@ -133,11 +165,25 @@ heard_by lane command readers a = record {
   told = what.Cmd lane command a.outcome ∷ [];
 }
 
--- each event, in the stack where it acts; none but commands is built
+-- a reader's event: its line, and the readers that are open then
+abbrev pub heard_reader : (Outcome → What) → Answer (List Reader) → Heard
+heard_reader line a = record { scene = None; readers = a.left; told = line a.outcome ∷ [] }
+
+-- each event, in the stack where it acts. What a timer does is not built, and a timer is not taken without
+-- it, since the ARP entry or the ping that it is for would be left with none
 unfoldable pub local : LocalRule
 local common p here (event.Cmd lane path command) =
     heard_by lane command here.readers (near_answer common command here.scene)
-local common p here _ = record { scene = here.scene; readers = here.readers; told = [] }
+local common p here (event.Open lane path table) =
+    heard_reader (what.Open lane table)
+    (answer here.readers (open_rule lane (lines_here table here.scene) here.readers))
+local common p here (event.Next lane path) =
+    heard_reader (what.Next lane) (answer here.readers (next_rule lane here.readers))
+local common p here (event.Close lane path) =
+    heard_reader (what.Close lane) (answer here.readers (close_rule lane here.readers))
+local common p here (event.LoopDeliver path) =
+    record { scene = option_map without_datagram here.scene; readers = here.readers; told = [] }
+local common p here _ = record { scene = None; readers = here.readers; told = [] }
 
 -- an event at a path
 abbrev pub act : World → Path → Event → World

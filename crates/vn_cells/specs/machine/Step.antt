@@ -1,5 +1,5 @@
 -- One event of the machine, and a whole run.
-use Rattle.std.specs.Prelude.{ℕ, List, [], ◌∷◌, Option, Some, None, if◌then◌else◌}
+use Rattle.std.specs.Prelude.{ℕ, Bool, true, false, List, [], ◌∷◌, Option, Some, None, if◌then◌else◌}
 use Rattle.vn_types.specs.declared.errno.Errno.{Errno}
 use Rattle.vn_types.specs.declared.errno.Errno.TheVariants as errno
 use Rattle.vn_types.specs.Refusals.{first_refusal}
@@ -12,11 +12,12 @@ use Rattle.vn_cells.specs.declared.transcript.What.TheVariants as what
 use Rattle.vn_cells.specs.declared.world.Stack.{Stack}
 use Rattle.vn_cells.specs.declared.world.World.{World}
 use Rattle.vn_cells.specs.world.Names.{Path}
-use Rattle.vn_cells.specs.world.World.{no_stack, is_alive, common_of, entry_of, noting, edit_stack}
+use Rattle.vn_cells.specs.world.World.{no_stack, stack_at, is_alive, common_of, entry_of, noting, edit_stack, later}
 use Rattle.vn_cells.specs.machine.Reach.{Reach, Near, reach}
 use Rattle.vn_cells.specs.commands.Jails.{construct}
 use Rattle.vn_cells.specs.machine.Commands.{far_rule}
 use Rattle.vn_cells.specs.machine.Local.{act}
+use Rattle.vn_cells.specs.machine.Queues.{delivered, has_datagram, has_due}
 
 -- ---- commands
 
@@ -48,10 +49,31 @@ refusal_at w issuer command =
 
 -- ---- the step
 
--- one event; none but commands is built, and none other does anything
+-- the path, where the test passes
+abbrev pub where_true : Bool → Path → Option Path
+where_true true p = Some p
+where_true false p = None
+
+-- in which stack an event acts that is no command and no frame, if it takes something
+unfoldable pub acting : World → Event → Option Path
+acting w (event.LoopDeliver path) = where_true (has_datagram (stack_at w path).live) path
+acting w (event.Fire path) = where_true (has_due w.clock (stack_at w path).live) path
+acting w (event.Open lane path table) = Some path
+acting w (event.Next lane path) = Some path
+acting w (event.Close lane path) = Some path
+acting w _ = None
+
+-- an event acts there; where it takes nothing, all is as it was
+unfoldable pub acted : Option Path → Event → World → World
+acted None event w = w
+acted (Some p) event w = act w p event
+
+-- one event
 unfoldable pub step : World → Event → World
+step w (event.Tick n) = later n w
 step w (event.Cmd lane path command) = commanded lane path command w
-step w _ = w
+step w (event.Deliver half) = delivered half w
+step w event = acted (acting w event) event w
 
 -- host alone, just constructed
 abbrev pub opening : World
