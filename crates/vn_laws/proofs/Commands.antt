@@ -34,7 +34,7 @@ use Rattle.vn_laws.proofs.edits.Trees.{alive_tree}
 use Rattle.vn_laws.proofs.edits.Twins.{twins-sound}
 use Rattle.vn_laws.proofs.rule.Alike.{AlikeRules}
 use Rattle.vn_laws.proofs.rule.Conditions.{none_of_two}
-use Rattle.vn_laws.proofs.jails.Created.{may_create, created_alive, created_clock, created_told}
+use Rattle.vn_laws.proofs.jails.Created.{may_create, created_alive, created_clock, created_told, created_readers}
 use Rattle.vn_laws.proofs.jails.Kept.{sound-created, leaves-created, belongs-created}
 use Rattle.vn_laws.proofs.jails.Removed.{is_removed}
 use Rattle.vn_laws.proofs.jails.Goes.{goes-made_pair, goes-destroyed_by, goes-with_mac_on, goes-moved_on, goes-removed}
@@ -238,7 +238,7 @@ pub goes-far : (common : Common) (issuer : Path) (r : Reach) (v : World) → Goe
 unfolding far_rule
 goes-far common issuer Near v = goes-none v
 goes-far common issuer (MakesJail p limit) v =
-    record { clock = created_clock common.clock p limit v; told = created_told common.clock p limit v }
+    record { clock = created_clock common.clock p limit v; told = created_told common.clock p limit v; readers = created_readers common.clock p limit v }
 goes-far common issuer (RemovesJail p) v = goes-removed common.clock p v
 goes-far common issuer (MakesPair None) v = goes-lowest v issuer (lowest_free v issuer)
 goes-far common issuer (MakesPair (Some unit)) v = goes-made_pair v (issuer, unit)

@@ -6,6 +6,8 @@ pub mod jails
 pub mod local
 pub mod Commands
 pub mod Steps
+pub mod versions
+pub mod schedules
 pub mod Touched
 pub mod Opening
 pub mod Isolated

@@ -1,5 +1,5 @@
 -- One event: the world stays sound, a half that moves leaves nothing behind, and what belongs to a set still does.
-use Rattle.std.proofs.Common.{◌≡◌, ℕ, ◌+◌, Bool, true, false, ◌&&◌, ◌||◌, not, Option, Some, None, refl, sym, ap, ◌∙◌, subst, arith, ◌⊎◌, inl, inr}
+use Rattle.std.proofs.Common.{◌≡◌, ℕ, ◌+◌, Bool, true, false, ◌&&◌, ◌||◌, not, [], ◌∷◌, Option, Some, None, refl, sym, ap, ◌∙◌, subst, arith, ◌⊎◌, inl, inr}
 use Rattle.std.specs.Prelude.{if◌then◌else◌}
 use Rattle.std.specs.Option.{is_some, is_none}
 use Rattle.std.specs.List.{list_all}
@@ -12,6 +12,7 @@ use Rattle.vn_types.specs.declared.half.Half.{Half}
 use Rattle.vn_rules.specs.Rules.{Common, answer, refused}
 use Rattle.vn_rules.specs.Scenes.{SceneOf}
 use Rattle.vn_cells.specs.declared.cell.Cells.{Cells}
+use Rattle.vn_cells.specs.declared.cell.CellName.TheVariants.{Stack as OfStack}
 use Rattle.vn_cells.specs.declared.command.Command.{Command}
 use Rattle.vn_cells.specs.declared.event.Event.{Event}
 use Rattle.vn_cells.specs.declared.event.Event.TheVariants as event
@@ -23,10 +24,11 @@ use Rattle.vn_cells.specs.world.Names.{Path, path_eq, is_host, is_below}
 use Rattle.vn_cells.specs.world.World.{common_of, stack_at, is_alive}
 use Rattle.vn_cells.specs.machine.Events.{is_at_path, is_valid_command, is_valid_event}
 use Rattle.vn_cells.specs.machine.Reach.{Reach, Near, reach}
-use Rattle.vn_cells.specs.machine.Commands.{far_rule}
-use Rattle.vn_cells.specs.machine.Local.{Here, local, act}
-use Rattle.vn_cells.specs.machine.Step.{entered, ran_by, commanded, step}
-use Rattle.vn_cells.specs.sets.Sets.{in_set, command_deciders, deciders}
+use Rattle.vn_cells.specs.machine.Commands.{near_rule, far_rule}
+use Rattle.vn_cells.specs.machine.Local.{Here, local, near_answer, act}
+use Rattle.vn_cells.specs.machine.Queues.{has_datagram, has_due}
+use Rattle.vn_cells.specs.machine.Step.{entered, ran_by, commanded, where_true, acting, acted, step}
+use Rattle.vn_cells.specs.sets.Sets.{in_set, in_stacks, command_deciders, deciders}
 use Rattle.vn_cells.specs.keeping.Sound.{IsSound, living_below, counts_right, is_number}
 use Rattle.vn_cells.specs.keeping.Moved.{LeavesNothing}
 use Rattle.vn_cells.specs.sets.Changed.{is_common}
@@ -34,11 +36,12 @@ use Rattle.vn_laws.specs.Relations.{Alike, Belongs}
 use Rattle.vn_laws.proofs.edits.Alike.{alike-edit_stack}
 use Rattle.vn_laws.proofs.edits.Cells.{clock-edit_stack}
 use Rattle.vn_laws.proofs.edits.Counts.{one_living_less}
-use Rattle.vn_laws.proofs.edits.Shapes.{SameShape, shape_tree, belongs-shape}
-use Rattle.vn_laws.proofs.edits.Standing.{leaves_nothing, leaves_nothing-same}
+use Rattle.vn_laws.proofs.edits.Shapes.{SameShape, shape_tree, sound-shape, leaves-shape, belongs-shape}
+use Rattle.vn_laws.proofs.edits.Standing.{leaves-none, leaves-then, leaves_nothing, leaves_nothing-same, belongs-same}
 use Rattle.vn_laws.proofs.edits.Trees.{alive_tree}
 use Rattle.vn_laws.proofs.local.Acted.{KeepsTables, sound_scene, sound_after, tree-act_by, standing-act_by, clock-act_by, belongs-act_by, sound-act_by}
 use Rattle.vn_laws.proofs.local.Alike.{alike-local}
+use Rattle.vn_laws.proofs.local.Events.{shape-later, alike-later, standing-delivered, sound-delivered, clock-delivered, alike-delivered, either_acted, alike-acted, none-tables, looped-tables}
 use Rattle.vn_laws.proofs.rule.Answers.{answered, shape-entered, reached, either_way, commanded-keeps}
 use Rattle.vn_laws.proofs.rule.Alike.{AlikeRules, alike-answered}
 use Rattle.vn_laws.proofs.jails.Alike.{alive_alike}
@@ -49,15 +52,12 @@ use Rattle.vn_laws.proofs.edits.Lived.{IsNew, Lived, lived-same}
 
 -- ---- the machine's own rule keeps tables sound
 
-same-tables : (o : Option (SceneOf Half)) → sound_scene o ≡ true → sound_after o o ≡ true
-same-tables None e = refl
-same-tables (Some scene) e = e
-
 local-tables : (common : Common) (p : Path) (here : Here) (event : Event) → sound_scene here.scene ≡ true
     → sound_after here.scene (local common p here event).scene ≡ true
 unfolding local
 local-tables common p here (event.Cmd lane path command) e = near-tables common command here.scene e
-local-tables common p here _ e = same-tables here.scene e
+local-tables common p here (event.LoopDeliver path) e = looped-tables here.scene e
+local-tables common p here _ e = none-tables here.scene
 
 tables-local : KeepsTables local
 tables-local = record { tables = local-tables }
@@ -78,6 +78,9 @@ fine-act {v} s p event = record {
   nothing = leaves_nothing-same (standing-act_by local v p event).pairs;
 }
 
+fine-acted : {v : World} → IsSound v → (event : Event) → StepFine v (acted (acting v event) event v)
+fine-acted {v} s event = either_acted (StepFine v) (acting v event) event v (by_leaves (fine-none s)) (λ p. fine-act s p event)
+
 pub fine-step : {v : World} → IsSound v → (event : Event) → is_valid_event event ≡ true → StepFine v (step v event)
 unfolding step is_valid_event
 fine-step {v} s (event.Cmd lane issuer command) valid =
@@ -89,18 +92,28 @@ fine-step {v} s (event.Cmd lane issuer command) valid =
     (fine-far s (common_of v) issuer lives (reach issuer command) (fits issuer command (and_parts (is_at_path lane issuer) (is_valid_command issuer command) valid).1)))
     (shape-entered v.clock lane issuer command _))))
     (by_leaves (fine-shape (fine-none s) (shape-entered v.clock lane issuer command (refused errno.NoEnt v))))
-fine-step s _ valid = by_leaves (fine-none s)
+fine-step {v} s (event.Tick n) valid = by_leaves (fine-shape (fine-none s) (shape-later n v))
+fine-step {v} s (event.Deliver half) valid = record {
+  sound = sound-delivered half v s;
+  nothing = leaves_nothing-same (standing-delivered half v).pairs;
+}
+fine-step s event valid = fine-acted s event
 
 -- ---- what all cells share
 
+clock-acted : (v : World) (event : Event) → (acted (acting v event) event v).clock ≡ v.clock
+clock-acted v event = either_acted (λ w. w.clock ≡ v.clock) (acting v event) event v refl (λ p. clock-act_by local v p event)
+
 pub clock-step : (v : World) (event : Event) → is_common event ≡ false → (step v event).clock ≡ v.clock
-unfolding step
+unfolding step is_common
 clock-step v (event.Cmd lane issuer command) own =
     commanded-keeps (λ w. w.clock ≡ v.clock) lane issuer command v refl
     (λ a e. clock-edit_stack issuer _ _ ∙ e)
     (clock-act_by local v issuer (event.Cmd lane issuer command))
     (λ none. (goes-far (common_of v) issuer (reach issuer command) v).clock)
-clock-step v _ own = refl
+clock-step v (event.Tick n) own = absurd (true≢false own)
+clock-step v (event.Deliver half) own = clock-delivered half v
+clock-step v event own = clock-acted v event
 
 -- ---- a set
 
@@ -108,6 +121,9 @@ clock-step v _ own = refl
 abbrev pub Decided : Cells → Event → Type 0
 Decided set (event.Cmd lane issuer command) = list_all (in_set set) (command_deciders issuer (reach issuer command)) ≡ true
 Decided set _ = Unit {0}
+
+belongs-acted : {set : Cells} {v : World} → Belongs set v → (event : Event) → Belongs set (acted (acting v event) event v)
+belongs-acted {set} {v} b event = either_acted (Belongs set) (acting v event) event v b (λ p. belongs-act_by local v p event b)
 
 pub belongs-step : {set : Cells} {v : World} → Belongs set v → IsSound v → (event : Event) → Decided set event
     → Belongs set (step v event)
@@ -117,7 +133,9 @@ belongs-step {set} {v} b s (event.Cmd lane issuer command) all =
     (λ a c. belongs-shape c (shape-entered v.clock lane issuer command a))
     (belongs-act_by local v issuer (event.Cmd lane issuer command) b)
     (belongs-far s set b (common_of v) issuer (reach issuer command) all)
-belongs-step b s _ all = b
+belongs-step {set} {v} b s (event.Tick n) all = belongs-shape b (shape-later n v)
+belongs-step {set} {v} b s (event.Deliver half) all = belongs-same b (standing-delivered half v)
+belongs-step b s event all = belongs-acted b event
 
 -- ---- two worlds
 
@@ -158,12 +176,29 @@ module _ {set : Cells} {v w : World} (a : Alike set v w) (b : Belongs set v) (c 
       by true = alike-ran_by lane issuer command (reach issuer command) (fits issuer command valid) all
       by false = dead
 
+  -- the acting stack is of the set
+  acting_inside : (p : Path) → list_all (in_set set) (OfStack p ∷ []) ≡ true → in_stacks set p ≡ true
+  unfolding in_set
+  acting_inside p all = (and_parts _ true all).0
+
   pub alike-step : (event : Event) → is_valid_event event ≡ true → list_all (in_set set) (deciders v event) ≡ true
       → Alike set (step v event) (step w event)
-  unfolding step deciders is_valid_event
+  unfolding step acting deciders is_valid_event
   alike-step (event.Cmd lane issuer command) valid all =
       alike-commanded lane issuer command (and_parts (is_at_path lane issuer) (is_valid_command issuer command) valid).1 all
-  alike-step _ valid all = a
+  alike-step (event.Tick n) valid all = alike-later a n
+  alike-step (event.Deliver half) valid all = alike-delivered a half
+  alike-step (event.LoopDeliver p) valid all =
+      let inside = acting_inside p all in
+      subst (λ (s : Stack). Alike set (step v (event.LoopDeliver p)) (acted (where_true (has_datagram s.live) p) (event.LoopDeliver p) w))
+      (a.stacks p inside) (alike-acted a b p (event.LoopDeliver p) inside (has_datagram (stack_at v p).live))
+  alike-step (event.Fire p) valid all =
+      let inside = acting_inside p all in
+      subst (λ (x : ℕ × Stack). Alike set (step v (event.Fire p)) (acted (where_true (has_due x.0 x.1.live) p) (event.Fire p) w))
+      (λ i. (a.clock i, a.stacks p inside i)) (alike-acted a b p (event.Fire p) inside (has_due v.clock (stack_at v p).live))
+  alike-step (event.Open lane p table) valid all = alike-acted a b p (event.Open lane p table) (acting_inside p all) true
+  alike-step (event.Next lane p) valid all = alike-acted a b p (event.Next lane p) (acting_inside p all) true
+  alike-step (event.Close lane p) valid all = alike-acted a b p (event.Close lane p) (acting_inside p all) true
 
 -- ---- who is new
 
@@ -174,6 +209,10 @@ lived-shape {u} {v} {w} l t = record { of = λ q h. by q (l.of q (sym (alive_tre
     by q (inl e) = inl e
     by q (inr n) = inr (record { before = n.before; alive = λ r. alive_tree (shape_tree t) r ∙ n.alive r })
 
+lived-acted : (v : World) (event : Event) → Lived v (acted (acting v event) event v)
+lived-acted v event =
+    either_acted (Lived v) (acting v event) event v (lived-same (λ q. refl)) (λ p. lived-same (alive_tree (tree-act_by local v p event)))
+
 pub lived-step : (v : World) (event : Event) → Lived v (step v event)
 unfolding step
 lived-step v (event.Cmd lane issuer command) =
@@ -181,7 +220,9 @@ lived-step v (event.Cmd lane issuer command) =
     (λ a l. lived-shape l (shape-entered v.clock lane issuer command a))
     (lived-same (alive_tree (tree-act_by local v issuer (event.Cmd lane issuer command))))
     (lived-far (common_of v) issuer (reach issuer command))
-lived-step v _ = lived-same (λ q. refl)
+lived-step v (event.Tick n) = lived-shape (lived-same (λ q. refl)) (shape-later n v)
+lived-step v (event.Deliver half) = lived-same (standing-delivered half v).alive
+lived-step v event = lived-acted v event
 
 -- a new jail is told to each ancestor other than host
 pub born_told : {v w : World} → IsSound v → IsSound w → (q r : Path) → IsNew v w q → is_host r ≡ false → is_below q r ≡ true

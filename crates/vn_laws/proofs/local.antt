@@ -3,3 +3,4 @@ pub mod Placed
 pub mod Acted
 pub mod Near
 pub mod Alike
+pub mod Events

@@ -4,3 +4,4 @@ pub mod Units
 pub mod Removals
 pub mod WorkedRows
 pub mod PairSets
+pub mod Versions

@@ -61,6 +61,17 @@ module _ (clock : ℕ) (p : Path) (limit : ℕ) (v : World) where
       by true = refl
       by false = recounted is_some (λ live c. refl) (list_any (path_eq q) (above p)) more (stack_at v q)
 
+  -- readers stay
+  pub created_readers : (q : Path) → (stack_at (created clock p limit v) q).readers ≡ (stack_at v q).readers
+  created_readers q = ap (λ (s : Stack). s.readers) (created_stack q) ∙ by (path_eq q p) (list_any (path_eq q) (above p))
+    where
+      by : (b c : Bool) → (if b then fresh clock limit (if c then live_map (recount more) (stack_at v q) else stack_at v q)
+          else (if c then live_map (recount more) (stack_at v q) else stack_at v q)).readers ≡ (stack_at v q).readers
+      by true true = refl
+      by true false = refl
+      by false true = refl
+      by false false = refl
+
   -- transcripts go on
   pub created_told : (q : Path) → length (stack_at v q).entries ≤ length (stack_at (created clock p limit v) q).entries
   created_told q =

@@ -75,7 +75,7 @@ goes-run_down p DestroysHomed v = goes-without_pairs (homed_at v p) v
 
 goes-noted : (clock : ℕ) (p : Path) (what : What) (v : World) → Goes v (noted clock p what v)
 goes-noted clock p what v =
-    goes-edit_stack v p (noting (entry_of clock what)) (λ s. let n = length-append s.entries (entry_of clock what ∷ []) in omega arith)
+    goes-edit_stack v p (noting (entry_of clock what)) (λ s. let n = length-append s.entries (entry_of clock what ∷ []) in omega arith) (λ s. refl)
 
 goes-torn_down : (clock : ℕ) (p : Path) (more : List (RowOf Half)) (v : World) → Goes v (torn_down clock p more v)
 unfolding torn_down
@@ -87,7 +87,13 @@ goes-torn_down clock p (row ∷ more) v =
 goes-killed : (p : Path) (v : World) → Goes v (killed p v)
 unfolding killed
 goes-killed p v = goes-each_stack v _ (λ q. none (path_eq q p) (list_any (path_eq q) (above p))) (λ q s. by (path_eq q p) (list_any (path_eq q) (above p)) s)
+    (λ q s. kept (path_eq q p) (list_any (path_eq q) (above p)) s)
   where
+    kept : (a b : Bool) (s : Stack) → (if a then record s { live = None } else (if b then live_map (recount one_less) s else s)).readers ≡ s.readers
+    kept true b s = refl
+    kept false true s = refl
+    kept false false s = refl
+
     none : (a b : Bool) → (if a then no_stack else (if b then live_map (recount one_less) no_stack else no_stack)) ≡ no_stack
     none true b = refl
     none false b = none_lives b (recount one_less)

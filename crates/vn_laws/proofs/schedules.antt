@@ -1,0 +1,4 @@
+-- Which history a script asks for, and what is left where nothing waits.
+pub mod InOrder
+pub mod Settled
+pub mod Clock

@@ -1,0 +1,27 @@
+ghost use Rattle.std.specs.Prelude.{◌≡◌, ◌≤◌, ◌↔◌, ◌*◌, None, List, length};
+ghost use Rattle.vn_cells.specs.declared.event.Event.{Event as AnyEvent};
+ghost use Rattle.vn_cells.specs.declared.event.TheConstants.{EVENTS_MAX};
+ghost use Rattle.vn_cells.specs.declared.script.Script.{Script as AnyScript};
+ghost use Rattle.vn_cells.specs.declared.world.World.{World as AnyWorld};
+ghost use Rattle.vn_cells.specs.machine.Deliveries.{next_delivery, settle_events};
+ghost use Rattle.vn_cells.specs.machine.Events.{IsValid};
+ghost use Rattle.vn_cells.specs.machine.Step.{run, run_from};
+ghost use Rattle.vn_cells.specs.texts.Schedule.{InOrder, IsSchedule, serial_run};
+
+/// Where the lines of a phase are done in script order, a script asks for one history.
+pub fn law_of_schedules()
+    ensures { (script : AnyScript) (events : List AnyEvent)
+        → IsSchedule InOrder script events ↔ (events ≡ serial_run script) }
+{}
+
+/// Nothing waits after the deliveries of a settle, unless they are more than a run may have.
+pub fn law_of_settling()
+    ensures { (w : AnyWorld) → length (settle_events w) ≤ EVENTS_MAX
+        → next_delivery (run_from w (settle_events w)) ≡ None }
+{}
+
+/// The clock is at most a day for each event. What timers and counters come to is not told here.
+pub fn law_of_growth()
+    ensures { (events : List AnyEvent) → IsValid events
+        → (run events).clock ≤ 86400000 * length events }
+{}
