@@ -4,7 +4,7 @@ use Rattle.std.specs.List.{All, Contains, filter}
 use Rattle.std.specs.Option.{MatchOption, IfSome, IfNone, unwrap_or}
 use Rattle.std.specs.Cmp.{Equal-is}
 use Rattle.std.specs.Ordering.{nat_cmp}
-use Rattle.std.specs.Map.{lookup as value_at, keys_of}
+use Rattle.std.specs.Map.{keys_of}
 use Rattle.std.specs.BTreeMap.{is_at}
 use Rattle.std.proofs.lemmas.Bool.{eqb-true, ltb-true, ltb-false, false≢true, false_from_ne_true, and_parts}
 use Rattle.std.proofs.lemmas.Cmp.{eq_by_cmp_equiv}
@@ -16,7 +16,7 @@ use Rattle.vn_types.specs.declared.address.Ip4.{Ip4}
 use Rattle.vn_types.specs.declared.address.Prefix.{Prefix}
 use Rattle.vn_rules.specs.Networks.{network_of, lies_in}
 use Rattle.vn_rules.specs.Orders.{are_rising, are_routes}
-use Rattle.vn_rules.specs.Routes.{Routed, prefix_cmp, covers_ip, longer, longest, lookup, IsLongest}
+use Rattle.vn_rules.specs.Routes.{Routed, prefix_cmp, route_at, covers_ip, longer, longest, lookup, IsLongest}
 use Rattle.vn_rules.proofs.OrderLaws.{prefix_cmp_total, IsStrictlySortedBy-from_rising}
 use Rattle.vn_rules.proofs.TimerOrder.{unfiltered}
 
@@ -35,6 +35,13 @@ prefix-covers ip a b same at bt =
     λ i. record { net = record { 0 = net i }; len = same i }
 
 module _ {N : Type 0} where
+  -- no prefix stands twice: what stands is what is found at its prefix
+  pub route_at-stands : (routes : List (Routed N)) → are_routes routes ≡ true → (e : Routed N) → Contains routes e → route_at e.0 routes ≡ Some e.1
+  unfolding are_routes
+  route_at-stands routes right e stands =
+      lookup-from_Contains (eq_by_cmp_equiv prefix_cmp_total) e.0 e.1 routes
+      (IsDistinct-from_sorted prefix_cmp (keys_of routes) (IsStrictlySortedBy-from_rising prefix_cmp (keys_of routes) (and_parts (are_rising prefix_cmp (keys_of routes)) _ right).0)) stands
+
   -- e is in the list, and nothing of the list is longer
   record IsLongestOf (es : List (Routed N)) (e : Routed N) : Type 0 where
     stands : Contains es e
@@ -94,13 +101,6 @@ module _ {N : Type 0} where
         by None none = none
         by (Some e) is = tt
 
-    -- no prefix stands twice
-    found : are_routes routes ≡ true → (e : Routed N) → Contains routes e → value_at (is_at (prefix_cmp e.0)) routes ≡ Some e.1
-    unfolding are_routes
-    found right e stands =
-        lookup-from_Contains (eq_by_cmp_equiv prefix_cmp_total) e.0 e.1 routes
-        (IsDistinct-from_sorted prefix_cmp (keys_of routes) (IsStrictlySortedBy-from_rising prefix_cmp (keys_of routes) (and_parts (are_rising prefix_cmp (keys_of routes)) _ right).0)) stands
-
     -- there is one alone
     pub longest-one : are_routes routes ≡ true → (e f : Routed N) → IsLongest ip routes e → IsLongest ip routes f → e ≡ f
     longest-one right e f ei fi = λ i. (same i, target i)
@@ -115,7 +115,7 @@ module _ {N : Type 0} where
         same = prefix-covers ip e.0 f.0 (omega (arith, le, ge)) ei.covers fi.covers
 
         two : Some e.1 ≡ Some f.1
-        two = sym (found right e ei.stands) ∙ ap (λ k. value_at (is_at (prefix_cmp k)) routes) same ∙ found right f fi.stands
+        two = sym (route_at-stands routes right e ei.stands) ∙ ap (λ k. route_at k routes) same ∙ route_at-stands routes right f fi.stands
 
         target : e.1 ≡ f.1
         target = ap (λ o. unwrap_or o e.1) two

@@ -57,6 +57,11 @@ rising-remove {K} {V} cmp test (e ∷ es) rising = by (test e.0) (rising-remove 
     by false more = and_from _ _ (keys_pass-remove test above es parts.0) more
 
 module _ {N : Type 0} where
+  -- there are none
+  pub are_routes-none : (routes : List (Routed N)) → routes ≡ [] → are_routes routes ≡ true
+  unfolding are_routes
+  are_routes-none routes none = rw none refl
+
   -- a route to a network is added, or leads elsewhere
   pub are_routes-insert : (to : Prefix) (target : TargetOf N) (routes : List (Routed N)) → is_network to ≡ true → are_routes routes ≡ true → are_routes (insert_entry prefix_cmp routes to target) ≡ true
   unfolding are_routes

@@ -1,0 +1,4 @@
+pub mod Keys
+pub mod Stacks
+pub mod Wanted
+pub mod Lengths
