@@ -1,6 +1,11 @@
 pub mod Splitting
 pub mod Settings
 pub mod Room
-pub mod Meanings
-pub mod LaneLines
 pub mod Scripts
+pub mod Found
+pub mod Bounds
+pub mod Commands
+pub mod Jail
+pub mod Requests
+pub mod Meanings
+pub mod ReadParts

@@ -1,160 +1,222 @@
--- What words mean can happen, and takes so many octets.
-use Rattle.std.proofs.Common.{◌≡◌, ℕ, ◌+◌, ◌*◌, ◌≤◌, ◌==◌, Bool, true, false, cond, ◌&&◌, not, List, [], ◌∷◌, length, take, drop, Option, Some, None, refl, sym, ap, ◌∙◌, arith, length-drop, true≢false}
-use Rattle.std.specs.Prelude.{codes, IfSome, filter_map}
-use Rattle.std.specs.List.{list_all, cons_option}
+-- What a line means can happen, and has at least 31 octets where the program runs it.
+use Rattle.std.proofs.Common.{◌≡◌, ℕ, ◌+◌, ◌*◌, ◌≤◌, Bool, true, false, cond, not, List, [], ◌∷◌, length, Option, Some, None, Result, Ok, Err, refl, sym, arith, true≢false}
+use Rattle.std.specs.Prelude.{codes, nat_le, IfSome, IfOk}
+use Rattle.std.specs.List.{list_all}
+use Rattle.std.specs.Option.{option_map, ok_or}
 use Rattle.std.specs.Str.{bytes_eq}
-use Rattle.std.proofs.lemmas.Bool.{and_parts, and_from, eqb-true}
-use Rattle.std.proofs.lemmas.Slice.Eq.{bytes_eq-Decides}
-use Rattle.vn_types.specs.NumberWords.{number_of}
-use Rattle.vn_types.specs.Words.{is_label}
-use Rattle.vn_types.specs.Paths.{Path, is_host, is_path}
-use Rattle.vn_types.specs.PathTexts.{pieces}
-use Rattle.vn_types.specs.PathWords.{path_of, labels_of}
-use Rattle.vn_types.specs.Steps.{◌>>=◌}
-use Rattle.vn_types.proofs.Options.{none_some}
-use Rattle.vn_types.proofs.PathReading.{is_path-path_of}
-use Rattle.vn_cells.specs.declared.command.Command.{Command}
-use Rattle.vn_cells.specs.machine.Events.{is_lane}
-use Rattle.vn_shell.specs.Words.{such_that, lane_of, named_of, below_host, behind}
-use Rattle.vn_shell.specs.Commands.Jail.{name_of, times, is_setting, only, settings_of, creation, jail_of}
-use Rattle.vn_shell.specs.Commands.{command_of}
-use Rattle.vn_shell.proofs.Room.{room}
-use Rattle.vn_shell.proofs.Settings.{Alone, alone, once, times-word}
+use Rattle.std.proofs.lemmas.Bool.{and_parts, and_from}
+use Rattle.vn_types.specs.Paths.{Path, is_path}
+use Rattle.vn_types.specs.PathWords.{path_of}
+use Rattle.vn_cells.specs.declared.script.Line.{Line}
+use Rattle.vn_cells.specs.machine.Bounds.{is_wait}
+use Rattle.vn_cells.specs.machine.Events.{is_built_line, is_lane, is_valid_asked, is_valid_line}
+use Rattle.vn_shell.specs.declared.forms.Forms.{Forms}
+use Rattle.vn_shell.specs.declared.forms.Forms.TheVariants.{All, Built}
+use Rattle.vn_shell.specs.declared.item.Item.{Item}
+use Rattle.vn_shell.specs.declared.item.Item.TheVariants as item
+use Rattle.vn_shell.specs.declared.lines.TheConstants.{MOST_LABELS}
+use Rattle.vn_shell.specs.declared.script.Reason.{Reason}
+use Rattle.vn_shell.specs.declared.script.Reason.TheVariants as reason
+use Rattle.vn_shell.specs.Words.{words_of, is_filled, is_form, lane_of, wait_of}
+use Rattle.vn_shell.specs.Requests.{request_of, depth_in}
+use Rattle.vn_shell.specs.Grammar.{◌>>=◌, takes_line, takes_breaks, break_of, between, issuer_of, taken, asked_at, lane_line_of, line_of_words, is_text, is_comment, line_of, with_line, items_from}
+use Rattle.vn_shell.proofs.Bounds.{lane_in, wait_in, path_in}
+use Rattle.vn_shell.proofs.Found.{some_map, some_if}
+use Rattle.vn_shell.proofs.Requests.{Asks, request_in}
+use Rattle.vn_shell.proofs.Room.{room, room-words, words-filled, word_long}
 
--- ---- steps that may find nothing
+-- ---- steps that may be refused
 
-some_then : {A B : Type 0} (P : A → Type 0) (Q : B → Type 0) (o : Option A) (f : A → Option B) → IfSome o P → ((x : A) → P x → IfSome (f x) Q) → IfSome (o >>= f) Q
-some_then P Q None f h g = tt
-some_then P Q (Some x) f h g = g x h
+ok_then : {A B : Type 0} (P : A → Type 0) (Q : B → Type 0) (r : Result A Reason) (f : A → Result B Reason) → IfOk r P → ((x : A) → P x → IfOk (f x) Q) → IfOk (r >>= f) Q
+ok_then P Q (Ok x) f h g = g x h
+ok_then P Q (Err e) f h g = tt
 
-some_where : {A : Type 0} (P : A → Type 0) (b : Bool) (x : A) → (b ≡ true → P x) → IfSome (cond b (Some x) None) P
-some_where P true x h = h refl
-some_where P false x h = tt
+ok_where : {A : Type 0} (P : A → Type 0) (b : Bool) (x : A) (why : Reason) → (b ≡ true → P x) → IfOk (cond b (Ok x) (Err why)) P
+ok_where P true x why h = h refl
+ok_where P false x why h = tt
 
--- what is at hand under its own equation
-some_at : {A : Type 0} (P : A → Type 0) (o : Option A) → ((x : A) → o ≡ Some x → P x) → IfSome o P
-some_at P None h = tt
-some_at P (Some x) h = h x refl
+ok_some : {A : Type 0} (P : A → Type 0) (o : Option A) (why : Reason) → IfSome o P → IfOk (ok_or o why) P
+ok_some P None why h = tt
+ok_some P (Some x) why h = h
 
--- ---- words
+ok_if : {A : Type 0} (Q : A → Type 0) (b : Bool) (x y : Result A Reason) → IfOk x Q → IfOk y Q → IfOk (cond b x y) Q
+ok_if Q true x y h g = h
+ok_if Q false x y h g = g
 
-pub lane_in : (word : List ℕ) → IfSome (lane_of word) (λ n. is_lane n ≡ true)
-unfolding lane_of
-lane_in word =
-    some_then (λ n. Unit {0}) (λ n. is_lane n ≡ true) (number_of word) (such_that is_lane) (some_at _ (number_of word) (λ n e. tt))
-    (λ n h. some_where (λ m. is_lane m ≡ true) (is_lane n) n (λ e. e))
+-- ---- what holds where only the forms are taken that the program runs
 
-no_path : path_of [] ≡ None
-unfolding path_of labels_of is_path pieces is_label
-no_path = refl
+abbrev pub Runs : Forms → Type 0 → Type 0
+Runs All P = Unit {0}
+Runs Built P = P
 
-filled : (text : List ℕ) (path : Path) → path_of text ≡ Some path → 1 ≤ length text
-filled [] path e = absurd (none_some path (sym no_path ∙ e))
-filled (c ∷ text) path e = omega arith
+runs_with : (forms : Forms) (P Q : Type 0) → (P → Q) → Runs forms P → Runs forms Q
+runs_with All P Q f h = tt
+runs_with Built P Q f h = f h
 
-pub path_in : (text : List ℕ) → IfSome (path_of text) (λ p. is_path p ≡ true)
-path_in text = some_at _ (path_of text) (λ p e. is_path-path_of text p e)
+runs_two : (forms : Forms) (P Q R : Type 0) → (P → Q → R) → Runs forms P → Runs forms Q → Runs forms R
+runs_two All P Q R f h g = tt
+runs_two Built P Q R f h g = f h g
 
--- a path that a command may name
-abbrev pub is_named : Path → Bool
-is_named path = is_path path && not (is_host path)
+runs_taken : (forms : Forms) (asked : Line) → takes_line forms asked ≡ true → Runs forms (is_built_line asked ≡ true)
+runs_taken All asked h = tt
+runs_taken Built asked h = h
 
-named_in : (text : List ℕ) → IfSome (named_of text) (λ path. (is_named path ≡ true) × (1 ≤ length text))
-unfolding named_of
-named_in text =
-    some_then (λ path. (is_path path ≡ true) × (1 ≤ length text)) _ (path_of text) below_host
-    (some_at _ (path_of text) (λ path e. (is_path-path_of text path e, filled text path e)))
-    (λ path read. by path (is_host path) refl read)
+runs_breaks : (forms : Forms) (P : Type 0) → takes_breaks forms ≡ true → Runs forms P
+runs_breaks All P h = tt
+runs_breaks Built P h = absurd (true≢false (sym h))
+
+-- a test that is passed, and so many octets
+pub record Passes (test : Bool) (least octets : ℕ) : Type 0 where
+  pub yes : test ≡ true
+  pub long : least ≤ octets
+
+-- ---- lines
+
+record Taken (forms : Forms) (octets : ℕ) (asked : Line) : Type 0 where
+  asks : Asks octets asked
+  runs : Runs forms (is_built_line asked ≡ true)
+
+taken_in : (forms : Forms) (words : List (List ℕ)) → IfOk (taken forms words) (Taken forms (room words))
+unfolding taken
+taken_in forms words =
+    ok_then (Asks (room words)) (Taken forms (room words)) (ok_or (request_of words) reason.Command) _ (ok_some (Asks (room words)) (request_of words) reason.Command (request_in words))
+    (λ asked h. ok_where (Taken forms (room words)) (takes_line forms asked) asked reason.Command (λ e. record { asks = h; runs = runs_taken forms asked e }))
+
+record CanAsk (forms : Forms) (path : Path) (octets : ℕ) (asked : Line) : Type 0 where
+  valid : is_valid_asked path asked ≡ true
+  runs : Runs forms (Passes (is_built_line asked) 28 octets)
+
+asked_in : (forms : Forms) (path : Path) (words : List (List ℕ)) → IfOk (asked_at forms path words) (CanAsk forms path (room words))
+unfolding asked_at
+asked_in forms path words =
+    ok_then (Taken forms (room words)) (CanAsk forms path (room words)) (taken forms words) _ (taken_in forms words)
+    (λ asked h. ok_where (CanAsk forms path (room words)) (nat_le (length path + depth_in asked) MOST_LABELS) asked reason.Depth
+    (λ few. record {
+      valid = h.asks.valid path few;
+      runs = runs_with forms (is_built_line asked ≡ true) (Passes (is_built_line asked) 28 (room words)) (λ b. record { yes = b; long = h.asks.long b }) h.runs;
+    }))
+
+abbrev Issues : List (List ℕ) → Path × List (List ℕ) → Type 0
+Issues words issuer = (is_path issuer.0 ≡ true) × (room issuer.1 + 2 ≤ room words)
+
+issuer_in : (words : List (List ℕ)) → list_all is_filled words ≡ true → IfOk (issuer_of words) (Issues words)
+unfolding issuer_of
+issuer_in [] filled = tt
+issuer_in (word ∷ words) filled =
+    ok_then (λ path. is_path path ≡ true) (Issues (word ∷ words)) (ok_or (path_of word) reason.Path) _ (ok_some _ (path_of word) reason.Path (path_in word))
+    (λ path h. (h, omega (arith, word_long word words filled)))
+
+-- whether what a line means is within its bounds
+abbrev pub is_valid_item : Item → Bool
+is_valid_item (item.Lane line) = is_valid_line line
+is_valid_item (item.Sleep n) = is_wait n
+is_valid_item _ = true
+
+-- whether the program runs it
+abbrev pub is_built_item : Item → Bool
+is_built_item (item.Lane line) = is_built_line line.line
+is_built_item _ = false
+
+record CanHappen (forms : Forms) (octets : ℕ) (i : Item) : Type 0 where
+  valid : is_valid_item i ≡ true
+  runs : Runs forms (Passes (is_built_item i) 32 octets)
+
+abbrev IsValidItem : Item → Type 0
+IsValidItem i = is_valid_item i ≡ true
+
+break_in : (words : List (List ℕ)) → IfSome (break_of words) IsValidItem
+unfolding break_of
+break_in [] = tt
+break_in (word ∷ []) =
+    some_if IsValidItem (bytes_eq word (codes "phase")) (Some item.Phase) _ refl
+    (some_if IsValidItem (bytes_eq word (codes "settle")) (Some item.Settle) None refl tt)
+break_in (word ∷ wait ∷ []) =
+    some_if IsValidItem (bytes_eq word (codes "sleep")) _ None (some_map (λ n. is_wait n ≡ true) IsValidItem (wait_of wait) item.Sleep (wait_in wait) (λ n h. h)) tt
+break_in (word ∷ wait ∷ other ∷ words) = tt
+
+-- what holds of the meaning, if a line has one
+abbrev IfItem : Result (Option Item) Reason → (Item → Type 0) → Type 0
+IfItem r P = IfOk r (λ o. IfSome o P)
+
+between_in : (forms : Forms) (words : List (List ℕ)) (octets : ℕ) → IfItem (between forms words) (CanHappen forms octets)
+unfolding between
+between_in forms words octets = by (takes_breaks forms) refl
   where
-    by : (path : Path) (b : Bool) → is_host path ≡ b → (is_path path ≡ true) × (1 ≤ length text) → IfSome (cond b None (Some path)) (λ p. (is_named p ≡ true) × (1 ≤ length text))
-    by path true e read = tt
-    by path false e read = (and_from _ _ read.0 (ap not e), read.1)
+    found : (o : Option Item) → IfSome o IsValidItem → takes_breaks forms ≡ true → IfItem (ok_or (option_map Some o) reason.Command) (CanHappen forms octets)
+    found None h e = tt
+    found (Some i) h e = record { valid = h; runs = runs_breaks forms (Passes (is_built_item i) 32 octets) e }
 
-record IsName (word : List ℕ) (path : Path) : Type 0 where
-  named : is_named path ≡ true
-  long : 6 ≤ length word
+    by : (b : Bool) → takes_breaks forms ≡ b → IfItem (cond b (ok_or (option_map Some (break_of words)) reason.Command) (Err reason.Command)) (CanHappen forms octets)
+    by true e = found (break_of words) (break_in words) e
+    by false e = tt
 
-name_in : (word : List ℕ) → IfSome (name_of word) (IsName word)
-unfolding name_of
-name_in word =
-    some_then (λ text. text ≡ drop 5 word) (IsName word) (behind (codes "name=") word) named_of
-    (some_where (λ text. text ≡ drop 5 word) (bytes_eq (take 5 word) (codes "name=")) (drop 5 word) (λ e. refl))
-    (λ text rest. by text rest (named_of text) (named_in text))
+abbrev Found : Forms → List (List ℕ) → Option Item → Type 0
+Found forms words o = IfSome o (CanHappen forms (room words))
+
+lane_line_in : (forms : Forms) (word : List ℕ) (words : List (List ℕ)) → list_all is_filled (word ∷ words) ≡ true → IfItem (lane_line_of forms word words) (CanHappen forms (room (word ∷ words)))
+unfolding is_valid_line
+lane_line_in forms word words filled =
+    ok_then (λ lane. is_lane lane ≡ true) (Found forms (word ∷ words)) (ok_or (lane_of word) reason.Lane) _ (ok_some (λ lane. is_lane lane ≡ true) (lane_of word) reason.Lane (lane_in word))
+    (λ lane is_one. ok_then (Issues words) (Found forms (word ∷ words)) (issuer_of words) _ (issuer_in words (and_parts _ _ filled).1)
+    (λ issuer issues. ok_then (CanAsk forms issuer.0 (room issuer.1)) (Found forms (word ∷ words)) (asked_at forms issuer.0 issuer.1) _ (asked_in forms issuer.0 issuer.1)
+    (λ asked can. record {
+      valid = and_from _ _ (and_from _ _ is_one issues.0) can.valid;
+      runs =
+          runs_with forms (Passes (is_built_line asked) 28 (room issuer.1)) (Passes (is_built_line asked) 32 (room (word ∷ words)))
+          (λ b. record { yes = b.yes; long = omega (arith, b.long, issues.1, word_long word words filled) }) can.runs;
+    })))
+
+words_in : (forms : Forms) (words : List (List ℕ)) → list_all is_filled words ≡ true → IfItem (line_of_words forms words) (CanHappen forms (room words))
+unfolding line_of_words
+words_in forms [] filled = tt
+words_in forms (word ∷ words) filled =
+    ok_if (λ o. IfSome o (CanHappen forms (room (word ∷ words)))) (is_form word) (between forms (word ∷ words)) _
+    (between_in forms (word ∷ words) (room (word ∷ words))) (lane_line_in forms word words filled)
+
+-- more octets
+longer : (forms : Forms) (i : Item) (n m : ℕ) → n ≤ m → CanHappen forms n i → CanHappen forms m i
+longer forms i n m less h = record {
+  valid = h.valid;
+  runs = runs_with forms (Passes (is_built_item i) 32 n) (Passes (is_built_item i) 32 m) (λ b. record { yes = b.yes; long = omega (arith, b.long, less) }) h.runs;
+}
+
+line_in : (forms : Forms) (line : List ℕ) → IfItem (line_of forms line) (CanHappen forms (length line + 1))
+unfolding line_of
+line_in forms line = by (is_text line) (is_comment line) (line_of_words forms (words_of line)) (words_in forms (words_of line) (words-filled line))
   where
-    by : (text : List ℕ) → text ≡ drop 5 word → (o : Option Path) → IfSome o (λ path. (is_named path ≡ true) × (1 ≤ length text)) → IfSome o (IsName word)
-    by text rest None h = tt
-    by text rest (Some path) h = record { named = h.0; long = omega (arith, h.1, ap length rest, length-drop 5 word) }
+    by : (a b : Bool) (r : Result (Option Item) Reason) → IfItem r (CanHappen forms (room (words_of line))) → IfItem (cond (not a) (Err reason.Text) (cond b (Ok None) r)) (CanHappen forms (length line + 1))
+    by true true r h = tt
+    by true false (Ok None) h = tt
+    by true false (Ok (Some i)) h = longer forms i (room (words_of line)) (length line + 1) (room-words line) h
+    by true false (Err e) h = tt
+    by false b r h = tt
 
--- ---- the settings of `jail -c`
+-- ---- all lines
 
-names_named : (words : List (List ℕ)) → list_all is_named (filter_map name_of words) ≡ true
-names_named [] = refl
-names_named (word ∷ words) = by (name_of word) (name_in word) (names_named words)
-  where
-    by : (o : Option Path) → IfSome o (IsName word) → list_all is_named (filter_map name_of words) ≡ true → list_all is_named (cons_option o (filter_map name_of words)) ≡ true
-    by None h all = all
-    by (Some path) h all = and_from _ _ h.named all
+pub record AllHappen (forms : Forms) (octets : ℕ) (items : List Item) : Type 0 where
+  pub valid : list_all is_valid_item items ≡ true
+  pub runs : Runs forms (Passes (list_all is_built_item items) (32 * length items) octets)
 
-same_length : (a b : List ℕ) → bytes_eq a b ≡ true → length a ≡ length b
-same_length a b e = ap length ((bytes_eq-Decides a b).0 e)
+with_in : (forms : Forms) (n k r : ℕ) (m : Result (Option Item) Reason) (after : Result (List Item) (ℕ × Reason)) → IfItem m (CanHappen forms (k + 1)) → IfOk after (AllHappen forms r) → IfOk (with_line n m after) (AllHappen forms (k + 1 + r))
+unfolding with_line
+with_in forms n k r (Err e) after h g = tt
+with_in forms n k r (Ok None) (Ok items) h g = record {
+  valid = g.valid;
+  runs =
+      runs_with forms (Passes (list_all is_built_item items) (32 * length items) r) (Passes (list_all is_built_item items) (32 * length items) (k + 1 + r))
+      (λ b. record { yes = b.yes; long = omega (arith, b.long) }) g.runs;
+}
+with_in forms n k r (Ok None) (Err e) h g = tt
+with_in forms n k r (Ok (Some i)) (Ok items) h g = record {
+  valid = and_from _ _ h.valid g.valid;
+  runs =
+      runs_two forms (Passes (is_built_item i) 32 (k + 1)) (Passes (list_all is_built_item items) (32 * length items) r) (Passes (list_all is_built_item (i ∷ items)) (32 * length (i ∷ items)) (k + 1 + r))
+      (λ b c. record { yes = and_from _ _ b.yes c.yes; long = omega (arith, b.long, c.long) }) h.runs g.runs;
+}
+with_in forms n k r (Ok (Some i)) (Err e) h g = tt
 
--- one more word, by what its tests answer
-word_room : (n m r : ℕ) (names : List Path) (word : List ℕ) (vnet persist : Bool) (o : Option Path) → Alone vnet persist o → (vnet ≡ true → length word ≡ 4) → (persist ≡ true → length word ≡ 7) → IfSome o (IsName word)
-    → 5 * n + 8 * m + 7 * length names ≤ r → 5 * (once vnet + n) + 8 * (once persist + m) + 7 * length (cons_option o names) ≤ length word + 1 + r
-word_room n m r names word true true o a v p l h = absurd (true≢false (a.vnet_alone refl).0)
-word_room n m r names word true false None a v p l h = omega (arith, v refl)
-word_room n m r names word true false (Some path) a v p l h = let e = (a.vnet_alone refl).1 in absurd (cc)
-word_room n m r names word false true None a v p l h = omega (arith, p refl)
-word_room n m r names word false true (Some path) a v p l h = let e = a.persist_alone refl in absurd (cc)
-word_room n m r names word false false None a v p l h = omega arith
-word_room n m r names word false false (Some path) a v p l h = omega (arith, l.long)
-
-room-settings : (words : List (List ℕ)) → 5 * times (codes "vnet") words + 8 * times (codes "persist") words + 7 * length (filter_map name_of words) ≤ room words
-room-settings [] = omega arith
-room-settings (word ∷ words) =
-    rw (times-word (codes "vnet") word words, times-word (codes "persist") word words)
-    (word_room (times (codes "vnet") words) (times (codes "persist") words) (room words) (filter_map name_of words) word (bytes_eq word (codes "vnet")) (bytes_eq word (codes "persist")) (name_of word)
-    (alone word) (same_length word (codes "vnet")) (same_length word (codes "persist")) (name_in word) (room-settings words))
-
-settings_in : (words : List (List ℕ)) → IfSome (settings_of words) (λ path. (is_named path ≡ true) × (20 ≤ room words))
-unfolding settings_of
-settings_in words = by _ refl (filter_map name_of words) (names_named words) (room-settings words)
-  where
-    by : (b : Bool) → (times (codes "vnet") words == 1 && times (codes "persist") words == 1 && list_all is_setting words) ≡ b → (names : List Path) → list_all is_named names ≡ true
-        → 5 * times (codes "vnet") words + 8 * times (codes "persist") words + 7 * length names ≤ room words → IfSome (cond b (only names) None) (λ path. (is_named path ≡ true) × (20 ≤ room words))
-    by true e [] named long = tt
-    by true e (path ∷ []) named long =
-        let counts = and_parts (times (codes "vnet") words == 1) (times (codes "persist") words == 1) (and_parts (times (codes "vnet") words == 1 && times (codes "persist") words == 1) (list_all is_setting words) e).0 in
-        ((and_parts _ _ named).0, omega (arith, eqb-true _ _ counts.0, eqb-true _ _ counts.1))
-    by true e (path ∷ other ∷ names) named long = tt
-    by false e names named long = tt
-
--- ---- commands
-
--- a command that can be given, but for the labels of its issuer
-pub record Creates (command : Command) : Type 0 where
-  pub path : Path
-  pub is : command ≡ creation path
-  pub named : is_named path ≡ true
-
-jail_in : (words : List (List ℕ)) → IfSome (jail_of words) (λ command. Creates command × (23 ≤ room words))
-unfolding jail_of
-jail_in [] = tt
-jail_in (option ∷ words) = by (bytes_eq option (codes "-c")) refl (settings_of words) (settings_in words)
-  where
-    by : (b : Bool) → bytes_eq option (codes "-c") ≡ b → (o : Option Path) → IfSome o (λ path. (is_named path ≡ true) × (20 ≤ room words))
-        → IfSome (cond b (o >>= λ path. Some (creation path)) None) (λ command. Creates command × (23 ≤ room (option ∷ words)))
-    by true e None h = tt
-    by true e (Some path) h = (record { path = path; is = refl; named = h.0 }, omega (arith, h.1, same_length option (codes "-c") e))
-    by false e o h = tt
-
-pub command_in : (words : List (List ℕ)) → IfSome (command_of words) (λ command. Creates command × (28 ≤ room words))
-unfolding command_of
-command_in [] = tt
-command_in (program ∷ words) = by (bytes_eq program (codes "jail")) refl (jail_of words) (jail_in words)
-  where
-    by : (b : Bool) → bytes_eq program (codes "jail") ≡ b → (o : Option Command) → IfSome o (λ command. Creates command × (23 ≤ room words))
-        → IfSome (cond b o None) (λ command. Creates command × (28 ≤ room (program ∷ words)))
-    by true e None h = tt
-    by true e (Some command) h = (h.0, omega (arith, h.1, same_length program (codes "jail") e))
-    by false e o h = tt
+pub items_in : (forms : Forms) (n : ℕ) (lines : List (List ℕ)) → IfOk (items_from forms n lines) (AllHappen forms (room lines))
+unfolding items_from
+items_in All n [] = record { valid = refl; runs = tt }
+items_in Built n [] = record { valid = refl; runs = record { yes = refl; long = omega arith } }
+items_in forms n (line ∷ lines) = with_in forms n (length line) (room lines) (line_of forms line) (items_from forms (n + 1) lines) (line_in forms line) (items_in forms (n + 1) lines)

@@ -14,11 +14,27 @@ use Rattle.vn_types.specs.Paths.{Path}
 use Rattle.vn_cells.specs.declared.command.Command.{Command}
 use Rattle.vn_cells.specs.declared.command.Command.TheVariants as command
 use Rattle.vn_shell.specs.Commands.Jail.{jail_of}
+use Rattle.vn_shell.specs.Commands.Ifconfig.{ifconfig_of}
+use Rattle.vn_shell.specs.Commands.Route.{route_of}
+use Rattle.vn_shell.specs.Commands.Arp.{arp_of}
+use Rattle.vn_shell.specs.Commands.Sysctl.{sysctl_of}
+use Rattle.vn_shell.specs.Commands.Netstat.{netstat_of}
+use Rattle.vn_shell.specs.Commands.Ping.{ping_of}
+use Rattle.vn_shell.specs.Commands.Udp.{udp_of}
 
 -- what the words mean
 unfoldable pub command_of : List (List ℕ) → Option Command
 command_of [] = None
-command_of (program ∷ words) = if bytes_eq program (codes "jail") then jail_of words else None
+command_of (program ∷ words) =
+    if bytes_eq program (codes "jail") then jail_of words
+    else if bytes_eq program (codes "ifconfig") then ifconfig_of words
+    else if bytes_eq program (codes "route") then route_of words
+    else if bytes_eq program (codes "arp") then arp_of words
+    else if bytes_eq program (codes "sysctl") then sysctl_of words
+    else if bytes_eq program (codes "netstat") then netstat_of words
+    else if bytes_eq program (codes "ping") then ping_of words
+    else if bytes_eq program (codes "udp") then udp_of words
+    else None
 
 -- the path that a command names
 abbrev pub named_path : Command → Option Path

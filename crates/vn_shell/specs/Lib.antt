@@ -1,4 +1,5 @@
 pub mod Words
 pub mod Commands
+pub mod Requests
 pub mod Grammar
 pub mod Readings

@@ -1,21 +1,20 @@
 -- What a reader of scripts answers, and what a script has been read into.
-use Rattle.std.specs.Prelude.{◌≡◌, ℕ, List, [], ◌∷◌, ◌++◌, map, Option, Some, None, Result, Ok, Err}
-use Rattle.std.specs.List.{flat_map}
-use Rattle.vn_cells.specs.declared.command.Command.{Command}
-use Rattle.vn_cells.specs.declared.command.Command.TheVariants as command
-use Rattle.vn_cells.specs.declared.event.Event.{Event}
-use Rattle.vn_cells.specs.declared.event.Event.TheVariants as event
-use Rattle.vn_cells.specs.declared.script.Line.{Line}
-use Rattle.vn_cells.specs.declared.script.Line.TheVariants as line
+use Rattle.std.specs.Prelude.{◌≡◌, ℕ, Bool, false, List, [], ◌∷◌, ◌++◌, Option, Some, None, Result, Ok, Err}
+use Rattle.std.specs.List.{flat_map, list_all}
 use Rattle.vn_cells.specs.declared.script.LaneLine.{LaneLine}
 use Rattle.vn_cells.specs.declared.script.Part.{Part}
 use Rattle.vn_cells.specs.declared.script.Part.TheVariants as part
 use Rattle.vn_cells.specs.declared.script.Script.{Script}
+use Rattle.vn_cells.specs.machine.Events.{is_built_line}
+use Rattle.vn_shell.specs.declared.fault.LineFault.{LineFault}
+use Rattle.vn_shell.specs.declared.fault.LineFault.TheVariants as line_fault
+use Rattle.vn_shell.specs.declared.item.Item.{Item}
+use Rattle.vn_shell.specs.declared.item.Item.TheVariants as item
+use Rattle.vn_shell.specs.declared.parts.Parts.{Parts}
 use Rattle.vn_shell.specs.declared.script.Reason.{Reason}
 use Rattle.vn_shell.specs.declared.script.ScriptFault.{ScriptFault}
 use Rattle.vn_shell.specs.declared.script.ScriptFault.TheVariants as fault
-use Rattle.vn_shell.specs.declared.fault.LineFault.{LineFault}
-use Rattle.vn_shell.specs.declared.fault.LineFault.TheVariants as line_fault
+use Rattle.vn_shell.specs.Grammar.{phases, parts_after}
 
 -- ---- answers
 
@@ -48,11 +47,33 @@ abbrev pub RefusesAt : {A : Type 0} → ℕ → Result A Reason → ScriptFault 
 RefusesAt number meaning (fault.Script at reason) = (at ≡ number) × (meaning ≡ Err reason)
 RefusesAt number meaning fault.NoMemory = Unit {0}
 
--- what a line means stands at the end, where it is not skipped
-abbrev pub IsPut : Result (Option LaneLine) Reason → List LaneLine → List LaneLine → Type 0
+-- ---- parts, as they are read line by line
+
+-- the parts where a phase ends
+abbrev pub ended : Parts → List Part
+ended read = read.parts ++ phases read.lines
+
+-- the parts where a phase ends, and another part
+abbrev pub ended_by : Parts → Part → Parts
+ended_by read part = record { parts = ended read ++ part ∷ []; lines = [] }
+
+-- the parts with an item more
+unfoldable pub with_item : Parts → Item → Parts
+with_item read (item.Lane line) = record read { lines = read.lines ++ line ∷ [] }
+with_item read item.Phase = record { parts = ended read; lines = [] }
+with_item read item.Settle = ended_by read part.Settle
+with_item read (item.Sleep n) = ended_by read (part.Sleep n)
+
+-- what a line means is put, where it is not skipped
+abbrev pub IsPut : Result (Option Item) Reason → Parts → Parts → Type 0
 IsPut (Ok None) old new = new ≡ old
-IsPut (Ok (Some line)) old new = new ≡ old ++ line ∷ []
+IsPut (Ok (Some item)) old new = new ≡ with_item old item
 IsPut (Err reason) old new = ⊥
+
+-- the parts of a script's lines
+abbrev pub parts_in : {E : Type 0} → Result (List Item) E → Result (List Part) E
+parts_in (Ok items) = Ok (parts_after [] items)
+parts_in (Err e) = Err e
 
 -- ---- scripts
 
@@ -65,19 +86,19 @@ lines_in _ = []
 unfoldable pub lane_lines : Script → List LaneLine
 lane_lines script = flat_map lines_in script.parts
 
--- the command of a line; a line without one is not built, as this is not
-abbrev pub command_in : Line → Command
-command_in (line.Cmd command) = command
-command_in _ = command.Stat
+-- whether the program runs a line
+abbrev pub is_built_lane : LaneLine → Bool
+is_built_lane lane_line = is_built_line lane_line.line
 
--- what happens where a line is run
-abbrev pub event_of : LaneLine → Event
-event_of lane_line = event.Cmd lane_line.lane lane_line.path (command_in lane_line.line)
+-- whether it runs a part
+abbrev pub is_built_part : Part → Bool
+is_built_part (part.Phase lines) = list_all is_built_lane lines
+is_built_part _ = false
+
+-- whether it runs each part of a script
+abbrev pub is_built_script : Script → Bool
+is_built_script script = list_all is_built_part script.parts
 
 -- the script that no line is in
 abbrev pub no_parts : Script
 no_parts = record { parts = [] }
-
--- what happens where each line is run
-unfoldable pub events_of : Script → List Event
-events_of script = map event_of (lane_lines script)

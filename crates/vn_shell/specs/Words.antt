@@ -2,13 +2,14 @@
 use Rattle.std.specs.Prelude.{ℕ, Bool, true, false, ◌||◌, ◌==◌, List, [], ◌∷◌, map, length, take, drop, codes, cond, if◌then◌else◌, Option, Some, None}
 use Rattle.std.specs.Borrow.{Bor}
 use Rattle.std.specs.List.{filter, slice_split, onto_first}
+use Rattle.std.specs.Option.{option_map}
 use Rattle.std.specs.Str.{bytes_eq}
 use Rattle.vn_types.specs.NumberWords.{number_of}
 use Rattle.vn_types.specs.Octets.{newline, space}
 use Rattle.vn_types.specs.Paths.{Path, is_host}
 use Rattle.vn_types.specs.PathWords.{path_of}
 use Rattle.vn_types.specs.Steps.{◌>>=◌}
-use Rattle.vn_cells.specs.machine.Bounds.{is_port, is_ttl}
+use Rattle.vn_cells.specs.machine.Bounds.{is_port, is_ttl, is_wait}
 use Rattle.vn_cells.specs.machine.Events.{is_lane}
 
 -- ---- lines and words
@@ -33,9 +34,9 @@ texts words = map (λ word. word.now) words
 
 -- ---- words
 
--- a number that passes a test
-abbrev pub such_that : (ℕ → Bool) → ℕ → Option ℕ
-such_that test number = if test number then Some number else None
+-- what passes a test
+abbrev pub such_that : {A : Type 0} → (A → Bool) → A → Option A
+such_that test x = if test x then Some x else None
 
 -- a number from 1 to 8
 unfoldable pub lane_of : List ℕ → Option ℕ
@@ -49,6 +50,10 @@ port_of word = number_of word >>= such_that is_port
 unfoldable pub ttl_of : List ℕ → Option ℕ
 ttl_of word = number_of word >>= such_that is_ttl
 
+-- milliseconds, from 1 to 86,400,000
+unfoldable pub wait_of : List ℕ → Option ℕ
+wait_of word = number_of word >>= such_that is_wait
+
 -- a path with a label
 abbrev pub below_host : Path → Option Path
 below_host path = if is_host path then None else Some path
@@ -61,6 +66,20 @@ named_of word = path_of word >>= below_host
 abbrev pub at_end : {A : Type 0} → List (List ℕ) → Option A → Option A
 at_end [] value = value
 at_end (word ∷ words) value = None
+
+-- what one word means, where no other stands there
+abbrev pub of_one : {A B : Type 0} → (List ℕ → Option A) → (A → B) → List (List ℕ) → Option B
+of_one read make (word ∷ []) = option_map make (read word)
+of_one read make _ = None
+
+-- what two words mean, where no other stands there
+abbrev pub of_two :
+    {A B C : Type 0} → (List ℕ → Option A) → (List ℕ → Option B) → (A → B → C) → List (List ℕ) → Option C
+of_two first second make (one ∷ two ∷ []) = do
+  x ← first one
+  y ← second two
+  Some (make x y)
+of_two first second make _ = None
 
 -- the first words of lines that are not lane lines
 unfoldable pub is_form : List ℕ → Bool

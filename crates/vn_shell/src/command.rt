@@ -9,12 +9,19 @@ mod route;
 mod sysctl;
 mod udp;
 
-ghost use Rattle.std.specs.Prelude.{◌≡◌, ◌≤◌, IfOk};
+ghost use Rattle.std.specs.Prelude.{◌≡◌, ◌≤◌, ◌∷◌, IfOk};
 ghost use Rattle.vn_shell.specs.Commands.{command_of, named_depth};
 ghost use Rattle.vn_shell.specs.Words.{texts};
 
+use arp::read_arp;
+use ifconfig::read_ifconfig;
 use jail::read_jail;
+use netstat::read_netstat;
+use ping::read_ping;
+use route::read_route;
 use std::alloc::Global;
+use sysctl::read_sysctl;
+use udp::read_udp;
 use vn_cells::Command;
 use vn_types::NoMemory;
 
@@ -24,9 +31,41 @@ pub(crate) fn read_command(alloc: Global, words: &[&[u8]]) -> Result<Option<Comm
     ensures { IfOk result (λ r. r ≡ command_of (texts words.now)) }
 {
     match words {
-        [b"jail", words @ ..] => read_jail(alloc, words),
-        _ => Ok(None),
+        [program, words @ ..] => read_program(alloc, program, words),
+        [] => Ok(None),
     }
+}
+
+/// The command that the words behind a program mean.
+#[tactic(auto, unfolding(crate::specs::Commands::command_of))]
+fn read_program(alloc: Global, program: &[u8], words: &[&[u8]]) -> Result<Option<Command>, NoMemory>
+    ensures { IfOk result (λ r. r ≡ command_of (program.now ∷ texts words.now)) }
+{
+    if program == b"jail".as_slice() {
+        return read_jail(alloc, words);
+    }
+    if program == b"ifconfig".as_slice() {
+        return read_ifconfig(alloc, words);
+    }
+    if program == b"route".as_slice() {
+        return Ok(read_route(words));
+    }
+    if program == b"arp".as_slice() {
+        return Ok(read_arp(words));
+    }
+    if program == b"sysctl".as_slice() {
+        return read_sysctl(alloc, words);
+    }
+    if program == b"netstat".as_slice() {
+        return Ok(read_netstat(words));
+    }
+    if program == b"ping".as_slice() {
+        return Ok(read_ping(words));
+    }
+    if program == b"udp".as_slice() {
+        return read_udp(alloc, words);
+    }
+    Ok(None)
 }
 
 /// How many labels the path has that a command names.

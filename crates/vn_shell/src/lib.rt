@@ -3,10 +3,14 @@
 
 mod command;
 mod fault;
+mod forms;
+mod item;
 mod lines;
+mod parts;
+mod request;
 mod script;
 #[cfg(test)]
 mod tests;
 mod words;
 
-pub use script::{Reason, ScriptFault, read_script};
+pub use script::{Reason, ScriptFault, read_script, read_whole_script};

@@ -2,16 +2,18 @@
 
 ghost use Rattle.std.specs.Prelude.{◌≡◌, ◌<◌, ◌∷◌, [], length, IfSome, IfNone};
 ghost use Rattle.std.specs.List.{list_all};
-ghost use Rattle.vn_shell.specs.Grammar.{no_lane, issuer_of, issued_by, line_of_words, is_printable, is_text, is_comment, line_of};
+ghost use Rattle.vn_shell.specs.Grammar.{break_of, end_of, between, issuer_of, taken, asked_at, line_of_words, is_printable, is_text, is_comment, line_of};
 ghost use Rattle.vn_shell.specs.Readings.{Gives, GivesBy};
 ghost use Rattle.vn_shell.specs.Words.{lines_of, texts};
 
-use crate::command::{named_depth, read_command};
 use crate::fault::LineFault;
+use crate::forms::Forms;
+use crate::item::Item;
+use crate::request::{depth_in, read_request};
 use crate::script::Reason;
-use crate::words::{cut_words, is_form, read_lane};
+use crate::words::{cut_words, is_form, read_lane, read_wait};
 use std::alloc::Global;
-use vn_cells::{Command, LaneLine, Line};
+use vn_cells::{LaneLine, Line};
 use vn_types::{Path, place_of, read_path};
 
 /// The most octets that a line has, without its end.
@@ -37,8 +39,8 @@ pub(crate) fn next_line(text: &[u8]) -> Option<(&[u8], &[u8])>
 
 /// What a line means, and nothing where it is skipped.
 #[tactic(auto, unfolding(crate::specs::Grammar::line_of))]
-pub(crate) fn read_line(alloc: Global, line: &[u8]) -> Result<Option<LaneLine>, LineFault>
-    ensures { Gives result (line_of line.now) }
+pub(crate) fn read_line(alloc: Global, forms: Forms, line: &[u8]) -> Result<Option<Item>, LineFault>
+    ensures { Gives result (line_of forms line.now) }
 {
     if !is_text(line) {
         return Err(LineFault::Refused(Reason::Text));
@@ -47,7 +49,7 @@ pub(crate) fn read_line(alloc: Global, line: &[u8]) -> Result<Option<LaneLine>, 
         return Ok(None);
     }
     let words = cut_words(alloc, line)?;
-    read_words(alloc, words.as_slice())
+    read_words(alloc, forms, words.as_slice())
 }
 
 fn are_printable(line: &[u8]) -> bool
@@ -72,33 +74,65 @@ fn is_comment(line: &[u8]) -> bool
 
 /// What the words of a line mean.
 #[tactic(auto, unfolding(crate::specs::Grammar::line_of_words))]
-fn read_words(alloc: Global, words: &[&[u8]]) -> Result<Option<LaneLine>, LineFault>
-    ensures { Gives result (line_of_words (texts words.now)) }
+fn read_words(alloc: Global, forms: Forms, words: &[&[u8]]) -> Result<Option<Item>, LineFault>
+    ensures { Gives result (line_of_words forms (texts words.now)) }
 {
-    let [word, words @ ..] = words else {
+    let [word, rest @ ..] = words else {
         return Ok(None);
     };
-    let lane = read_lane(word).ok_or(no_lane(word))?;
-    let (path, words) = read_issuer(alloc, words)?;
-    let command = read_issued(alloc, &path, words)?;
-    Ok(Some(LaneLine {
-        lane,
-        path,
-        line: Line::Cmd(command),
-    }))
-}
-
-/// Why a line is refused whose first word is no lane.
-fn no_lane(word: &[u8]) -> Reason
-    ensures { result ≡ no_lane word.now }
-{
     if is_form(word) {
-        return Reason::Command;
+        return read_between(forms, words);
     }
-    Reason::Lane
+    let lane = read_lane(word).ok_or(Reason::Lane)?;
+    let (path, rest) = read_issuer(alloc, rest)?;
+    let line = read_asked(alloc, forms, &path, rest)?;
+    Ok(Some(Item::Lane(LaneLine { lane, path, line })))
 }
 
-/// The path that issues a command, and the words behind it.
+/// A line between phases.
+#[tactic(auto, unfolding(crate::specs::Grammar::between))]
+fn read_between(forms: Forms, words: &[&[u8]]) -> Result<Option<Item>, LineFault>
+    ensures { Gives result (between forms (texts words.now)) }
+{
+    if !forms.takes_breaks() {
+        return Err(LineFault::Refused(Reason::Command));
+    }
+    let item = read_break(words).ok_or(Reason::Command)?;
+    Ok(Some(item))
+}
+
+/// `phase`, `settle`, or `sleep N`.
+#[tactic(auto, unfolding(crate::specs::Grammar::break_of))]
+fn read_break(words: &[&[u8]]) -> Option<Item>
+    ensures { result ≡ break_of (texts words.now) }
+{
+    match words {
+        [word] => read_end(word),
+        [word, wait] => {
+            if *word == b"sleep".as_slice() {
+                let milliseconds = read_wait(wait)?;
+                return Some(Item::Sleep(milliseconds));
+            }
+            None
+        }
+        _ => None,
+    }
+}
+
+/// `phase` or `settle`.
+fn read_end(word: &[u8]) -> Option<Item>
+    ensures { result ≡ end_of word.now }
+{
+    if word == b"phase".as_slice() {
+        return Some(Item::Phase);
+    }
+    if word == b"settle".as_slice() {
+        return Some(Item::Settle);
+    }
+    None
+}
+
+/// The path of a lane's line, and the words behind it.
 #[tactic(auto, unfolding(crate::specs::Grammar::issuer_of))]
 fn read_issuer<'w, 'a>(
     alloc: Global,
@@ -113,14 +147,26 @@ fn read_issuer<'w, 'a>(
     Ok((path, words))
 }
 
-/// The command that a path issues: no path has more than 8 labels, seen from host.
-#[tactic(auto, unfolding(crate::specs::Grammar::issued_by))]
-fn read_issued(alloc: Global, issuer: &Path, words: &[&[u8]]) -> Result<Command, LineFault>
-    ensures { Gives result (issued_by issuer.now (texts words.now)) }
+/// What is asked for, where the form is taken.
+#[tactic(auto, unfolding(crate::specs::Grammar::taken))]
+fn read_taken(alloc: Global, forms: Forms, words: &[&[u8]]) -> Result<Line, LineFault>
+    ensures { Gives result (taken forms (texts words.now)) }
 {
-    let command = read_command(alloc, words)?.ok_or(Reason::Command)?;
-    if issuer.depth() + named_depth(&command) > MOST_LABELS {
+    let line = read_request(alloc, words)?.ok_or(Reason::Command)?;
+    if !forms.takes_line(&line) {
+        return Err(LineFault::Refused(Reason::Command));
+    }
+    Ok(line)
+}
+
+/// What is asked for at a path: no path has more than 8 labels, seen from host.
+#[tactic(auto, unfolding(crate::specs::Grammar::asked_at))]
+fn read_asked(alloc: Global, forms: Forms, path: &Path, words: &[&[u8]]) -> Result<Line, LineFault>
+    ensures { Gives result (asked_at forms path.now (texts words.now)) }
+{
+    let line = read_taken(alloc, forms, words)?;
+    if path.depth() + depth_in(&line) > MOST_LABELS {
         return Err(LineFault::Refused(Reason::Depth));
     }
-    Ok(command)
+    Ok(line)
 }

@@ -77,7 +77,11 @@ fn scripts_are_read(rt: HostRuntime) -> Result<(), Fail> {
         ("1 host jail -c name=a name=b vnet persist", "1 command"),
         ("1 host jail -r a", "1 command"),
         (
-            "1 host jail -c name=a vnet persist children.max=3",
+            "1 host jail -c children.max=9999 name=a vnet persist",
+            "phase 1 host a limit ",
+        ),
+        (
+            "1 host jail -c name=a vnet persist children.max=10000",
             "1 command",
         ),
         ("1 host jail -c name=host vnet persist", "1 command"),

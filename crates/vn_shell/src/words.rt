@@ -2,7 +2,7 @@
 
 ghost use Rattle.std.specs.Prelude.{◌≡◌, ◌∷◌, ◌++◌, [], IfOk, OnOk};
 ghost use Rattle.std.specs.List.{filter};
-ghost use Rattle.vn_shell.specs.Words.{words_of, texts, is_filled, lane_of, port_of, ttl_of, named_of, is_form};
+ghost use Rattle.vn_shell.specs.Words.{words_of, texts, is_filled, lane_of, port_of, ttl_of, wait_of, named_of, is_form};
 
 use std::alloc::Global;
 use vn_types::{NoMemory, Path, cut, read_number, read_path};
@@ -47,7 +47,19 @@ pub(crate) fn read_lane(word: &[u8]) -> Option<u8>
     None
 }
 
-/// Whether a word begins a line that is not read yet.
+/// Milliseconds, from 1 to 86,400,000.
+#[tactic(auto, unfolding(crate::specs::Words::wait_of))]
+pub(crate) fn read_wait(word: &[u8]) -> Option<u64>
+    ensures { result ≡ wait_of word.now }
+{
+    let number = read_number(word)?;
+    if 1 <= number && number <= 86_400_000 {
+        return Some(number);
+    }
+    None
+}
+
+/// Whether a word begins a line between phases.
 #[tactic(auto, unfolding(crate::specs::Words::is_form))]
 pub(crate) fn is_form(word: &[u8]) -> bool
     ensures { result ≡ is_form word.now }

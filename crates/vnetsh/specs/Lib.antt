@@ -3,3 +3,4 @@ pub mod Lines
 pub mod Inputs
 pub mod Outputs
 pub mod Endings
+pub mod Runs

@@ -1,15 +1,16 @@
-ghost use Rattle.std.specs.Prelude.{◌≡◌, ◌≤◌, ◌<◌, ◌+◌, ◌++◌, ◌∷◌, [], length, map, IfOk, IfErr, OnOk, IsOkAnd, IsTrue};
+ghost use Rattle.std.specs.Prelude.{◌≡◌, ◌≤◌, ◌<◌, ◌+◌, ◌++◌, ◌∷◌, [], true, length, IfOk, IfErr, OnOk, IsOkAnd, IsTrue};
 ghost use Rattle.std.specs.List.{flat_map};
-ghost use Rattle.vn_cells.specs.machine.Events.{CanRun, can_run};
+ghost use Rattle.vn_cells.specs.machine.Events.{IsValidEvent, is_built, is_valid_script};
 ghost use Rattle.vn_cells.specs.texts.Reports.{report_of};
 ghost use Rattle.vn_cells.specs.texts.Schedule.{serial_run};
 ghost use Rattle.vn_cells.specs.texts.Text.{text};
 ghost use Rattle.vn_shell.specs.Grammar.{script_of};
-ghost use Rattle.vn_shell.specs.Readings.{Refuses, command_in, event_of, events_of, lane_lines, lines_in};
+ghost use Rattle.vn_shell.specs.Readings.{Refuses, is_built_script, lane_lines, lines_in};
 ghost use Rattle.vnetsh.specs.Inputs.{input_max};
+ghost use Rattle.vnetsh.specs.Runs.{CanRunLines, can_run_line, events_of};
 
 use std::alloc::Global;
-use vn_cells::{Command, EVENTS_MAX, Event, LaneLine, Line, Part, Report, Script};
+use vn_cells::{EVENTS_MAX, Event, LaneLine, Line, Part, Report, Script};
 use vn_kernel::{Kernel, StepFault};
 use vn_shell::{ScriptFault, read_script};
 use vn_text::{law_of_reports, write_report};
@@ -31,7 +32,8 @@ pub(crate) fn output(alloc: Global, input: Vec<u8>) -> Result<Vec<u8>, ScriptFau
 
 /// The text of the run of a script.
 fn run_text(alloc: Global, script: Script) -> Result<Vec<u8>, NoMemory>
-    requires valid { CanRun (events_of script) }
+    requires valid { is_valid_script script ≡ true }
+    requires built { is_built_script script ≡ true }
     requires few { length (lane_lines script) ≤ EVENTS_MAX }
     ensures { IfOk result (λ o. o.items ≡ text (serial_run script)) }
 {
@@ -44,7 +46,8 @@ fn run_text(alloc: Global, script: Script) -> Result<Vec<u8>, NoMemory>
 
 /// The report of a run of a script from the opening world.
 fn run_script(alloc: Global, script: Script) -> Result<Report, NoMemory>
-    requires valid { CanRun (events_of script) }
+    requires valid { is_valid_script script ≡ true }
+    requires built { is_built_script script ≡ true }
     requires few { length (lane_lines script) ≤ EVENTS_MAX }
     ensures { IfOk result (λ r. r ≡ report_of (serial_run script)) }
 {
@@ -54,10 +57,10 @@ fn run_script(alloc: Global, script: Script) -> Result<Report, NoMemory>
 }
 
 fn run_parts(kernel: &mut Kernel, parts: List<Part>) -> Result<(), NoMemory>
-    requires valid { CanRun (map event_of (flat_map lines_in parts)) }
+    requires valid { CanRunLines (flat_map lines_in parts) }
     requires room { length kernel.old.events + length (flat_map lines_in parts) ≤ EVENTS_MAX }
     ensures { OnOk result (kernel.new.events
-        ≡ kernel.old.events ++ map event_of (flat_map lines_in parts)) }
+        ≡ kernel.old.events ++ flat_map events_of (flat_map lines_in parts)) }
 {
     for part in parts.into_vec() {
         run_part(kernel, part)?;
@@ -66,10 +69,10 @@ fn run_parts(kernel: &mut Kernel, parts: List<Part>) -> Result<(), NoMemory>
 }
 
 fn run_part(kernel: &mut Kernel, part: Part) -> Result<(), NoMemory>
-    requires valid { CanRun (map event_of (lines_in part)) }
+    requires valid { CanRunLines (lines_in part) }
     requires room { length kernel.old.events + length (lines_in part) ≤ EVENTS_MAX }
     ensures { OnOk result (kernel.new.events
-        ≡ kernel.old.events ++ map event_of (lines_in part)) }
+        ≡ kernel.old.events ++ flat_map events_of (lines_in part)) }
 {
     match part {
         Part::Phase(lines) => run_lines(kernel, lines),
@@ -80,9 +83,9 @@ fn run_part(kernel: &mut Kernel, part: Part) -> Result<(), NoMemory>
 
 /// Runs the lines of a phase in script order.
 fn run_lines(kernel: &mut Kernel, lines: List<LaneLine>) -> Result<(), NoMemory>
-    requires valid { CanRun (map event_of lines) }
+    requires valid { CanRunLines lines }
     requires room { length kernel.old.events + length lines ≤ EVENTS_MAX }
-    ensures { OnOk result (kernel.new.events ≡ kernel.old.events ++ map event_of lines) }
+    ensures { OnOk result (kernel.new.events ≡ kernel.old.events ++ flat_map events_of lines) }
 {
     for line in lines.into_vec() {
         run_line(kernel, line)?;
@@ -91,11 +94,13 @@ fn run_lines(kernel: &mut Kernel, lines: List<LaneLine>) -> Result<(), NoMemory>
 }
 
 fn run_line(kernel: &mut Kernel, line: LaneLine) -> Result<(), NoMemory>
-    requires valid { IsTrue (can_run (event_of line)) }
+    requires valid { IsTrue (can_run_line line) }
     requires room { length kernel.old.events < EVENTS_MAX }
-    ensures { OnOk result (kernel.new.events ≡ kernel.old.events ++ event_of line ∷ []) }
+    ensures { OnOk result (kernel.new.events
+        ≡ kernel.old.events ++ flat_map events_of (line ∷ [])) }
 {
-    match kernel.step(event_of(line)) {
+    let event = event_of(line);
+    match kernel.step(event) {
         Ok(()) => Ok(()),
         Err(StepFault::NoMemory) => Err(NoMemory),
         // No script has so many lines.
@@ -103,23 +108,21 @@ fn run_line(kernel: &mut Kernel, line: LaneLine) -> Result<(), NoMemory>
     }
 }
 
+/// The one event of a line.
 fn event_of(line: LaneLine) -> Event
-    ensures { result ≡ event_of line }
+    requires { IsTrue (can_run_line line) }
+    ensures is { flat_map events_of (line ∷ []) ≡ result ∷ [] }
+    ensures valid { IsValidEvent result }
+    ensures built { is_built result ≡ true }
 {
     let LaneLine { lane, path, line } = line;
-    Event::Cmd {
-        lane,
-        path,
-        command: command_in(line),
-    }
-}
-
-fn command_in(line: Line) -> Command
-    ensures { result ≡ command_in line }
-{
     match line {
-        Line::Cmd(command) => command,
-        // No script that is read has such a line yet.
-        _ => Command::Stat,
+        Line::Cmd(command) => Event::Cmd {
+            lane,
+            path,
+            command,
+        },
+        // The program runs no other line yet.
+        _ => unreachable!(),
     }
 }

@@ -15,18 +15,19 @@ past_count (option ∷ count ∷ words) =
     if bytes_eq option (codes "-c") && bytes_eq count (codes "1") then words
     else option ∷ count ∷ words
 
+-- `TTL IP`
+abbrev pub limited_of : List ℕ → List ℕ → Option Command
+limited_of ttl ip = do
+  ttl ← ttl_of ttl
+  ip ← ip4_of ip
+  Some (command.Ping (Some ttl) ip)
+
 -- `[-m TTL] IP`
 unfoldable pub probe_of : List (List ℕ) → Option Command
 probe_of (ip ∷ []) = do
   ip ← ip4_of ip
   Some (command.Ping None ip)
-probe_of (option ∷ ttl ∷ ip ∷ []) = if bytes_eq option (codes "-m") then limited else None
-  where
-    limited : Option Command
-    limited = do
-      ttl ← ttl_of ttl
-      ip ← ip4_of ip
-      Some (command.Ping (Some ttl) ip)
+probe_of (option ∷ ttl ∷ ip ∷ []) = if bytes_eq option (codes "-m") then limited_of ttl ip else None
 probe_of _ = None
 
 -- `[-c 1] [-m TTL] IP`

@@ -5,10 +5,10 @@ use Rattle.std.specs.Str.{bytes_eq}
 use Rattle.vn_types.specs.declared.address.Ip4.{Ip4}
 use Rattle.vn_types.specs.declared.address.Prefix.{Prefix}
 use Rattle.vn_types.specs.AddressWords.{ip4_of, prefix_of}
-use Rattle.vn_types.specs.Steps.{◌>>=◌}
 use Rattle.vn_cells.specs.declared.command.Command.{Command}
 use Rattle.vn_cells.specs.declared.command.Command.TheVariants as command
 use Rattle.vn_rules.specs.Networks.{network_of}
+use Rattle.vn_shell.specs.Words.{of_one, of_two}
 
 -- `default`: all addresses
 abbrev pub everywhere : Prefix
@@ -33,23 +33,10 @@ abbrev pub past_net : List (List ℕ) → List (List ℕ)
 past_net [] = []
 past_net (word ∷ words) = if bytes_eq word (codes "-net") then words else word ∷ words
 
--- `DEST GW`
-unfoldable pub route_add_of : List (List ℕ) → Option Command
-route_add_of (dest ∷ gateway ∷ []) = do
-  to ← dest_of dest
-  via ← ip4_of gateway
-  Some (command.RouteAdd to via)
-route_add_of _ = None
-
--- `DEST`
-unfoldable pub route_delete_of : List (List ℕ) → Option Command
-route_delete_of (dest ∷ []) = option_map command.RouteDelete (dest_of dest)
-route_delete_of _ = None
-
 -- `add [-net] DEST GW` or `delete [-net] DEST`
 unfoldable pub route_of : List (List ℕ) → Option Command
 route_of [] = None
 route_of (verb ∷ words) =
-    if bytes_eq verb (codes "add") then route_add_of (past_net words)
-    else if bytes_eq verb (codes "delete") then route_delete_of (past_net words)
+    if bytes_eq verb (codes "add") then of_two dest_of ip4_of command.RouteAdd (past_net words)
+    else if bytes_eq verb (codes "delete") then of_one dest_of command.RouteDelete (past_net words)
     else None

@@ -14,7 +14,7 @@ use Rattle.vn_cells.specs.declared.command.Command.TheVariants as command
 use Rattle.vn_cells.specs.declared.command.Payload.{Payload}
 use Rattle.vn_cells.specs.declared.command.Payload.TheVariants as payload
 use Rattle.vn_shell.specs.declared.command.udp.TheConstants.{DIGITS_MAX, ZEROS_MAX}
-use Rattle.vn_shell.specs.Words.{such_that, behind, port_of, ttl_of, at_end}
+use Rattle.vn_shell.specs.Words.{such_that, behind, port_of, ttl_of, at_end, of_one, of_two}
 
 -- 2 to 4,096 hexadecimal digits, an even number of them
 unfoldable pub digits_of : List ℕ → Option Payload
@@ -37,20 +37,16 @@ abbrev pub any_ip_of : List ℕ → Option (Option Ip4)
 any_ip_of word = if bytes_eq word (codes "*") then Some None else option_map Some (ip4_of word)
 
 -- `IP PORT`, where IP may be `*`
-unfoldable pub bind_of : List ℕ → List (List ℕ) → Option Command
-bind_of sock (ip ∷ port ∷ []) = do
-  ip ← any_ip_of ip
-  port ← port_of port
-  Some (command.UdpBind sock ip port)
-bind_of sock _ = None
+abbrev pub bind_of : List ℕ → List (List ℕ) → Option Command
+bind_of sock words = of_two any_ip_of port_of (command.UdpBind sock) words
+
+-- an address and a port
+abbrev pub endpoint : Ip4 → ℕ → Ip4 × ℕ
+endpoint ip port = (ip, port)
 
 -- `IP PORT`
-unfoldable pub endpoint_of : List (List ℕ) → Option (Ip4 × ℕ)
-endpoint_of (ip ∷ port ∷ []) = do
-  ip ← ip4_of ip
-  port ← port_of port
-  Some (ip, port)
-endpoint_of _ = None
+abbrev pub endpoint_of : List (List ℕ) → Option (Ip4 × ℕ)
+endpoint_of words = of_two ip4_of port_of endpoint words
 
 -- the command that gives a socket its peer
 abbrev pub connecting : List ℕ → Ip4 × ℕ → Command
@@ -70,9 +66,8 @@ send_of sock (word ∷ words) = do
   Some (command.UdpSend sock payload to)
 
 -- `N`
-unfoldable pub limit_of : List ℕ → List (List ℕ) → Option Command
-limit_of sock (word ∷ []) = option_map (command.UdpTtl sock) (ttl_of word)
-limit_of sock _ = None
+abbrev pub limit_of : List ℕ → List (List ℕ) → Option Command
+limit_of sock words = of_one ttl_of (command.UdpTtl sock) words
 
 -- what is done to a socket
 unfoldable pub socket_of : List ℕ → List ℕ → List (List ℕ) → Option Command

@@ -1,8 +1,10 @@
 //! The words behind `arp`.
 
 ghost use Rattle.std.specs.Prelude.{◌≡◌};
-ghost use Rattle.vn_shell.specs.Commands.Arp.{arp_set_of, arp_delete_of, arp_of};
-ghost use Rattle.vn_shell.specs.Words.{texts};
+ghost use Rattle.vn_types.specs.AddressWords.{ip4_of, mac_of};
+ghost use Rattle.vn_cells.specs.declared.command.Command.TheVariants as command;
+ghost use Rattle.vn_shell.specs.Commands.Arp.{arp_of};
+ghost use Rattle.vn_shell.specs.Words.{of_one, of_two, texts};
 
 use vn_cells::Command;
 use vn_types::{read_ip4, read_mac};
@@ -24,9 +26,8 @@ pub(crate) fn read_arp(words: &[&[u8]]) -> Option<Command>
     None
 }
 
-#[tactic(auto, unfolding(crate::specs::Commands::Arp::arp_set_of))]
 fn read_set(words: &[&[u8]]) -> Option<Command>
-    ensures { result ≡ arp_set_of (texts words.now) }
+    ensures { result ≡ of_two ip4_of mac_of command.ArpSet (texts words.now) }
 {
     let [ip, mac] = words else {
         return None;
@@ -36,9 +37,8 @@ fn read_set(words: &[&[u8]]) -> Option<Command>
     Some(Command::ArpSet { ip, mac })
 }
 
-#[tactic(auto, unfolding(crate::specs::Commands::Arp::arp_delete_of))]
 fn read_delete(words: &[&[u8]]) -> Option<Command>
-    ensures { result ≡ arp_delete_of (texts words.now) }
+    ensures { result ≡ of_one ip4_of command.ArpDelete (texts words.now) }
 {
     let [ip] = words else {
         return None;

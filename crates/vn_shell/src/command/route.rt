@@ -1,8 +1,10 @@
 //! The words behind `route`.
 
 ghost use Rattle.std.specs.Prelude.{◌≡◌};
-ghost use Rattle.vn_shell.specs.Commands.Route.{dest_of, past_net, route_add_of, route_delete_of, route_of};
-ghost use Rattle.vn_shell.specs.Words.{texts};
+ghost use Rattle.vn_types.specs.AddressWords.{ip4_of};
+ghost use Rattle.vn_cells.specs.declared.command.Command.TheVariants as command;
+ghost use Rattle.vn_shell.specs.Commands.Route.{dest_of, past_net, route_of};
+ghost use Rattle.vn_shell.specs.Words.{of_one, of_two, texts};
 
 use vn_cells::Command;
 use vn_rules::network_of;
@@ -35,9 +37,8 @@ fn past_net<'w, 'a>(words: &'w [&'a [u8]]) -> &'w [&'a [u8]]
     }
 }
 
-#[tactic(auto, unfolding(crate::specs::Commands::Route::route_add_of))]
 fn read_add(words: &[&[u8]]) -> Option<Command>
-    ensures { result ≡ route_add_of (texts words.now) }
+    ensures { result ≡ of_two dest_of ip4_of command.RouteAdd (texts words.now) }
 {
     let [dest, gateway] = words else {
         return None;
@@ -47,9 +48,8 @@ fn read_add(words: &[&[u8]]) -> Option<Command>
     Some(Command::RouteAdd { to, via })
 }
 
-#[tactic(auto, unfolding(crate::specs::Commands::Route::route_delete_of))]
 fn read_delete(words: &[&[u8]]) -> Option<Command>
-    ensures { result ≡ route_delete_of (texts words.now) }
+    ensures { result ≡ of_one dest_of command.RouteDelete (texts words.now) }
 {
     let [dest] = words else {
         return None;

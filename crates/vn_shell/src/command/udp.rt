@@ -67,7 +67,6 @@ fn read_socket(
 }
 
 /// `IP PORT`, where IP may be `*`.
-#[tactic(auto, unfolding(crate::specs::Commands::Udp::bind_of))]
 fn read_bind(sock: SockName, words: &[&[u8]]) -> Option<Command>
     ensures { result ≡ bind_of sock (texts words.now) }
 {
@@ -90,7 +89,6 @@ fn read_any_ip(word: &[u8]) -> Option<Option<Ip4>>
 }
 
 /// `IP PORT`.
-#[tactic(auto, unfolding(crate::specs::Commands::Udp::endpoint_of))]
 fn read_endpoint(words: &[&[u8]]) -> Option<(Ip4, u16)>
     ensures { result ≡ endpoint_of (texts words.now) }
 {
@@ -138,7 +136,6 @@ fn read_send(alloc: Global, sock: SockName, words: &[&[u8]]) -> Result<Option<Co
 }
 
 /// `N`, a time to live.
-#[tactic(auto, unfolding(crate::specs::Commands::Udp::limit_of))]
 fn read_limit(sock: SockName, words: &[&[u8]]) -> Option<Command>
     ensures { result ≡ limit_of sock (texts words.now) }
 {
