@@ -1,11 +1,14 @@
 -- What a reader of scripts answers, and what a script has been read into.
-use Rattle.std.specs.Prelude.{◌≡◌, ℕ, Bool, false, List, [], ◌∷◌, ◌++◌, Option, Some, None, Result, Ok, Err}
+use Rattle.std.specs.Prelude.{◌≡◌, ℕ, Bool, true, false, List, [], ◌∷◌, ◌++◌, Option, Some, None, Result, Ok, Err}
 use Rattle.std.specs.List.{flat_map, list_all}
+use Rattle.vn_types.specs.Paths.{Path}
+use Rattle.vn_cells.specs.declared.command.Command.{Command}
 use Rattle.vn_cells.specs.declared.script.LaneLine.{LaneLine}
 use Rattle.vn_cells.specs.declared.script.Part.{Part}
 use Rattle.vn_cells.specs.declared.script.Part.TheVariants as part
 use Rattle.vn_cells.specs.declared.script.Script.{Script}
-use Rattle.vn_cells.specs.machine.Events.{is_built_line}
+use Rattle.vn_cells.specs.machine.Events.{is_built_line, is_valid_command}
+use Rattle.vn_cells.specs.texts.Programs.{command_text}
 use Rattle.vn_shell.specs.declared.fault.LineFault.{LineFault}
 use Rattle.vn_shell.specs.declared.fault.LineFault.TheVariants as line_fault
 use Rattle.vn_shell.specs.declared.item.Item.{Item}
@@ -14,6 +17,8 @@ use Rattle.vn_shell.specs.declared.parts.Parts.{Parts}
 use Rattle.vn_shell.specs.declared.script.Reason.{Reason}
 use Rattle.vn_shell.specs.declared.script.ScriptFault.{ScriptFault}
 use Rattle.vn_shell.specs.declared.script.ScriptFault.TheVariants as fault
+use Rattle.vn_shell.specs.Commands.{command_of}
+use Rattle.vn_shell.specs.Words.{words_of}
 use Rattle.vn_shell.specs.Grammar.{phases, parts_after}
 
 -- ---- answers
@@ -46,6 +51,13 @@ Refuses meaning fault.NoMemory = Unit {0}
 abbrev pub RefusesAt : {A : Type 0} → ℕ → Result A Reason → ScriptFault → Type 0
 RefusesAt number meaning (fault.Script at reason) = (at ≡ number) × (meaning ≡ Err reason)
 RefusesAt number meaning fault.NoMemory = Unit {0}
+
+-- ---- commands
+
+-- what is written of each command that can be given reads as that command
+abbrev pub IsReadBack : Type 0
+IsReadBack = (issuer : Path) (command : Command) → is_valid_command issuer command ≡ true
+    → command_of (words_of (command_text command)) ≡ Some command
 
 -- ---- parts, as they are read line by line
 

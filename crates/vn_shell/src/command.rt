@@ -11,8 +11,9 @@ mod udp;
 
 ghost use Rattle.std.specs.Prelude.{◌≡◌, ◌≤◌, ◌∷◌, IfOk};
 ghost use Rattle.vn_shell.specs.Commands.{command_of, named_depth};
-ghost use Rattle.vn_shell.specs.Words.{texts};
+ghost use Rattle.vn_shell.specs.Words.{texts, words_of};
 
+use crate::words::cut_words;
 use arp::read_arp;
 use ifconfig::read_ifconfig;
 use jail::read_jail;
@@ -25,9 +26,21 @@ use udp::read_udp;
 use vn_cells::Command;
 use vn_types::NoMemory;
 
+/// Reads a command, and tells none where the text is outside the forms of commands. Its words stand
+/// between spaces; a path in it is seen from the path that gives the command.
+pub fn read_command(alloc: Global, text: &[u8]) -> Result<Option<Command>, NoMemory>
+    ensures { IfOk result (λ r. r ≡ command_of (words_of text.now)) }
+{
+    let words = cut_words(alloc, text)?;
+    read_command_words(alloc, words.as_slice())
+}
+
 /// The command that words mean.
 #[tactic(auto, unfolding(crate::specs::Commands::command_of))]
-pub(crate) fn read_command(alloc: Global, words: &[&[u8]]) -> Result<Option<Command>, NoMemory>
+pub(crate) fn read_command_words(
+    alloc: Global,
+    words: &[&[u8]],
+) -> Result<Option<Command>, NoMemory>
     ensures { IfOk result (λ r. r ≡ command_of (texts words.now)) }
 {
     match words {

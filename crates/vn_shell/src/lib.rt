@@ -13,4 +13,5 @@ mod script;
 mod tests;
 mod words;
 
+pub use command::read_command;
 pub use script::{Reason, ScriptFault, read_script, read_whole_script};

@@ -4,7 +4,7 @@ ghost use Rattle.std.specs.Prelude.{◌≡◌, ◌≤◌, IfOk};
 ghost use Rattle.vn_shell.specs.Requests.{table_of, listing_of, step_of, reading_of, request_of, depth_in};
 ghost use Rattle.vn_shell.specs.Words.{texts};
 
-use crate::command::{named_depth, read_command};
+use crate::command::{named_depth, read_command_words};
 use std::alloc::Global;
 use vn_cells::{Line, Table};
 use vn_types::NoMemory;
@@ -17,7 +17,7 @@ pub(crate) fn read_request(alloc: Global, words: &[&[u8]]) -> Result<Option<Line
     if let Some(line) = read_reading(words) {
         return Ok(Some(line));
     }
-    match read_command(alloc, words)? {
+    match read_command_words(alloc, words)? {
         Some(command) => Ok(Some(Line::Cmd(command))),
         None => Ok(None),
     }

@@ -106,3 +106,88 @@ fn scripts_are_read(rt: HostRuntime) -> Result<(), Fail> {
     assert_eq!(rt; reading(alloc, &comment)?.as_slice(), b"1 text".as_slice());
     Ok(())
 }
+
+// Nothing, or why the request of lane 1 at a path is refused by the whole grammar.
+fn refusal(alloc: Global, text: &str) -> Result<&'static str, Fail> {
+    match read_whole_script(alloc, text.as_bytes()) {
+        Ok(_) => Ok(""),
+        Err(ScriptFault::NoMemory) => Ok("no memory"),
+        Err(ScriptFault::Script { line: _, reason }) => Ok(reason_text(reason)),
+    }
+}
+
+#[test]
+fn each_form_is_read(rt: HostRuntime) -> Result<(), Fail> {
+    let rows = [
+        ("phase", ""),
+        ("phase 1", "command"),
+        ("settle", ""),
+        ("settle now", "command"),
+        ("sleep 86400000", ""),
+        ("sleep 0", "command"),
+        ("1 host jail -c children.max=9999 persist vnet name=a", ""),
+        (
+            "1 host jail -c children.max=10000 persist vnet name=a",
+            "command",
+        ),
+        ("1 host jail -r a.b", ""),
+        ("1 host jail -r host", "command"),
+        ("1 a.b.c.d jail -r a.b.c.d.e", "depth"),
+        ("1 host ifconfig epair create", ""),
+        ("1 host ifconfig epair4294967295 create", ""),
+        ("1 host ifconfig epair4294967296 create", "command"),
+        ("1 host ifconfig epair0a destroy", ""),
+        ("1 host ifconfig epair00a destroy", "command"),
+        ("1 host ifconfig lo0 vnet a", ""),
+        ("1 host ifconfig lo0 -vnet a b", "command"),
+        ("1 host ifconfig lo0 inet 10.0.0.1/32 alias", ""),
+        ("1 host ifconfig lo0 inet alias 10.0.0.1/32", "command"),
+        ("1 host ifconfig lo0 inet 10.0.0.1 -alias", ""),
+        ("1 host ifconfig lo0 inet 10.0.0.1/33", "command"),
+        ("1 host ifconfig lo0 ether 02:aB:00:00:00:01", ""),
+        ("1 host ifconfig lo0 ether 2:ab:00:00:00:01", "command"),
+        ("1 host ifconfig lo0 up", ""),
+        ("1 host ifconfig lo0 down now", "command"),
+        ("1 host route add -net 10.0.0.7/8 10.0.0.1", ""),
+        ("1 host route add default", "command"),
+        ("1 host route delete default", ""),
+        ("1 host route delete -net", "command"),
+        ("1 host arp -s 10.0.0.1 02:00:00:00:00:01", ""),
+        ("1 host arp -d", "command"),
+        ("1 host sysctl net.inet.ip.ttl=18446744073709551615", ""),
+        ("1 host sysctl net.inet.ip.ttl=", "command"),
+        ("1 host netstat -s", ""),
+        ("1 host netstat", "command"),
+        ("1 host ping -c 1 -m 255 10.0.0.1", ""),
+        ("1 host ping -m 0 10.0.0.1", "command"),
+        ("1 host udp open a", ""),
+        ("1 host udp open A", "command"),
+        ("1 host udp bind a * 65535", ""),
+        ("1 host udp bind a * 65536", "command"),
+        ("1 host udp connect a 10.0.0.1 0", ""),
+        ("1 host udp connect a *", "command"),
+        ("1 host udp send a 0aF0 10.0.0.1 7", ""),
+        ("1 host udp send a 0", "command"),
+        ("1 host udp send a zero:20000", ""),
+        ("1 host udp send a zero:20001", "command"),
+        ("1 host udp ttl a 1", ""),
+        ("1 host udp ttl a 256", "command"),
+        ("1 host udp recv a", ""),
+        ("1 host udp close", "command"),
+        ("1 host ifconfig -a", ""),
+        ("1 host netstat -rn", ""),
+        ("1 host arp -an", ""),
+        ("1 host arp -a", "command"),
+        ("1 host open route", ""),
+        ("1 host open table", "command"),
+        ("1 host next", ""),
+        ("1 host close", ""),
+        ("1 host watch", ""),
+        ("1 host watch if", "command"),
+    ];
+    for (text, want) in rows {
+        let found = refusal(rt.alloc(), text)?;
+        assert_eq!(rt; found, want, "{text}");
+    }
+    Ok(())
+}

@@ -6,7 +6,7 @@ use Rattle.vn_cells.specs.texts.Schedule.{serial_run}
 use Rattle.vn_shell.specs.declared.script.Reason.{Reason}
 use Rattle.vn_shell.specs.Grammar.{script_of}
 use Rattle.vn_shell.proofs.ReadParts.{script_built, script_valid}
-use Rattle.vnetsh.proofs.Runs.{serial_valid}
+use Rattle.vnetsh.proofs.WholeRuns.{serial_valid}
 
 module _ {P : Script → Type 0} (always : (script : Script) → IsValid (serial_run script) → P script) where
   -- of a script that was read

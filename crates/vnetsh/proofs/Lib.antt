@@ -1,2 +1,4 @@
 pub mod Runs
+pub mod EventsOfLines
+pub mod WholeRuns
 pub mod Answered

@@ -1,6 +1,6 @@
 use Rattle.std.proofs.Common.{◌≡◌, IfOk, subst}
 use Rattle.vn_cells.specs.texts.Reports.{report_of}
-use Rattle.vnetsh.proofs.Runs.{script_can, script_room, script_run}
+use Rattle.vnetsh.proofs.WholeRuns.{script_can, script_room, script_run}
 use Rattle.vnetsh.proofs.run.run_script.Goals as goal
 
 pub run_parts-requires-clause-valid : goal.run_parts-requires-clause-valid
