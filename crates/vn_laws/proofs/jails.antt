@@ -8,6 +8,7 @@ pub mod Killed
 pub mod Own
 pub mod Buried
 pub mod Destroyed
+pub mod Reached
 pub mod Removed
 pub mod Goes
 pub mod Lived

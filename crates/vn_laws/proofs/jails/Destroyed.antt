@@ -13,7 +13,7 @@ use Rattle.vn_cells.specs.keeping.Sound.{IsSound}
 use Rattle.vn_laws.specs.Removals.{HomeAlone, is_cloner, past_cloner}
 use Rattle.vn_laws.proofs.edits.Trees.{alive_tree}
 use Rattle.vn_laws.proofs.edits.Fine.{Fine, fine-then}
-use Rattle.vn_laws.proofs.jails.Own.{is_own, TornDown, torn-down, alone-later}
+use Rattle.vn_laws.proofs.jails.Own.{OwnOnly, is_own, TornDown, torn-down, alone-later}
 use Rattle.vn_laws.proofs.jails.Buried.{home_alone, fine-buried, buried_alive}
 use Rattle.vn_laws.proofs.jails.Home.{Stays, stays-then, stands, Returned, returned, note, own-note}
 
@@ -22,7 +22,7 @@ pub record Destroyed (p : Path) (v w : World) : Type 0 where
   pub alive : (r : Path) → is_alive w r ≡ (is_alive v r && not (path_eq r p))
 
 -- the last row, by which halves are sent home
-abbrev home_row : RowOf Half
+abbrev pub home_row : RowOf Half
 home_row = record {
   subsystem = 9;
   order = 0;
@@ -33,7 +33,7 @@ home_row = record {
 
 module _ (p : Path) (clock : ℕ) (v : World) (s : IsSound v) (alive : is_alive v p ≡ true) where
   -- the world when its destructor has run, with its entry
-  abbrev homeward : World
+  abbrev pub homeward : World
   homeward = torn_down clock p (home_row ∷ []) v
 
   back_home : Returned p v (sent_home p (lent_here v p) v)
@@ -54,6 +54,16 @@ module _ (p : Path) (clock : ℕ) (v : World) (s : IsSound v) (alive : is_alive 
     -- the pairs that are homed there stand there
     alone_home : HomeAlone p homeward
     alone_home = home_alone stays_home.fine.sound p lowest_home
+
+    -- what follows changes the stack alone, and the pairs that are homed there
+    pub own_rows : OwnOnly p homeward (torn_down clock p rows v)
+    own_rows = own (take 10 rows) refl refl
+      where
+        own : (before : List (RowOf Half)) → rows ≡ before ++ home_row ∷ []
+            → list_all (λ (row : RowOf Half). is_own p row.down) before ≡ true → OwnOnly p homeward (torn_down clock p rows v)
+        own before table all =
+            subst (λ table. OwnOnly p homeward (torn_down clock p table v)) (sym table)
+            (torn-down p clock before (home_row ∷ []) v all alone_home).own
 
     -- a stack below which nothing lives: first the halves that are lent to it go home, and what follows is its own
     first_rows : (before : List (RowOf Half)) → rows ≡ before ++ home_row ∷ []

@@ -5,13 +5,13 @@ use Rattle.std.specs.List.{list_any, AllByRecursion}
 use Rattle.std.specs.List.Sorted.{IsStrictlySortedBy}
 use Rattle.std.specs.Map.{keys_of}
 use Rattle.std.specs.declared.cmp.Ordering.TheVariants.{Less}
-use Rattle.std.proofs.lemmas.Bool.{and_parts, and_from, not-true, true≢false}
+use Rattle.std.proofs.lemmas.Bool.{or_right, and_parts, and_from, not-true, true≢false}
 use Rattle.std.proofs.lemmas.List.Kept.{IsStrictlySortedBy-filter}
 use Rattle.vn_types.specs.PathOrder.{path_eq-Decides, path_ties, path_total}
 use Rattle.vn_types.proofs.EntryLaws.{below_all}
 use Rattle.vn_cells.specs.declared.world.World.{World}
 use Rattle.vn_cells.specs.world.Names.{Path, path_eq, path_cmp, is_host, is_under, is_below}
-use Rattle.vn_cells.specs.world.World.{is_alive}
+use Rattle.vn_cells.specs.world.World.{stack_at, is_alive}
 use Rattle.vn_cells.specs.commands.Jails.{rows}
 use Rattle.vn_cells.specs.commands.Removal.{torn_down, destroyed, living_under, destroyed_all, removed}
 use Rattle.vn_cells.specs.keeping.Sound.{IsSound}
@@ -21,6 +21,7 @@ use Rattle.vn_laws.proofs.edits.Paths.{path_eq-sym, less-below, under-trans, not
 use Rattle.vn_laws.proofs.edits.Lists.{any-filter, any-above_all}
 use Rattle.vn_laws.proofs.edits.Cells.{alive_listed, path_eq-same}
 use Rattle.vn_laws.proofs.edits.Standing.{leaves-none, leaves-then}
+use Rattle.vn_laws.proofs.jails.Reached.{destroyed_reach, under_neither}
 use Rattle.vn_laws.proofs.jails.Destroyed.{alone_at_cloner, Destroyed, is_destroyed}
 use Rattle.vn_laws.proofs.edits.Fine.{Fine}
 
@@ -114,6 +115,18 @@ module _ (v : World) (s : IsSound v) (clock : ℕ) where
   all_alone (p ∷ before) q after sorted live whole =
       all_alone before q after sorted.1 live.1 (rest_whole p (before ++ q ∷ after) sorted whole)
 
+  -- a stack above which none of them is, and which is none of them, is as it was
+  all_reach : (ps : List Path) → IsStrictlySortedBy path_cmp ps → AllLive ps → IsWhole ps → (q : Path)
+      → ((p : Path) → list_any (path_eq p) ps ≡ true → is_under p q ≡ false) → stack_at (destroyed_all clock ps v) q ≡ stack_at v q
+  unfolding destroyed_all IsStrictlySortedBy
+  all_reach [] sorted live whole q out = refl
+  all_reach (p ∷ ps) sorted live whole q out =
+      let rest = rest_whole p ps sorted whole in
+      let more = all_destroyed ps sorted.1 live.1 rest in
+      destroyed_reach p clock (destroyed_all clock ps v) more.sound (still_lives p ps sorted live.0.0 more) (lowest p ps whole more) q
+      (out p (ap (λ b. b || list_any (path_eq p) ps) (path_eq-same p)))
+      ∙ all_reach ps sorted.1 live.1 rest q (λ r e. out r (or_right (path_eq r p) (list_any (path_eq r) ps) e))
+
 -- ---- a removal
 
 pub record Removed (p : Path) (v w : World) : Type 0 where
@@ -167,3 +180,8 @@ module _ (clock : ℕ) (p : Path) (v : World) (s : IsSound v) (top : is_host p �
   removed_at_home before q after e =
       all_alone v s clock before q after (subst (IsStrictlySortedBy path_cmp) e sorted_under) (subst (AllLive v s clock) e live_under)
       (subst (IsWhole v s clock) e whole_under)
+
+  pub removed_reach : (q : Path) → is_under q p ≡ false → is_under p q ≡ false → stack_at (removed clock p v) q ≡ stack_at v q
+  removed_reach q below above =
+      all_reach v s clock (living_under v p) sorted_under live_under whole_under q
+      (λ r e. under_neither p q r below above (and_parts (is_alive v r) (is_under r p) (sym (in_living_under v p r) ∙ e)).1)

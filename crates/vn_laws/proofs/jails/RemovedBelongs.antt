@@ -10,17 +10,18 @@ use Rattle.vn_cells.specs.declared.cell.Cells.{Cells}
 use Rattle.vn_cells.specs.declared.world.Stack.{Stack}
 use Rattle.vn_cells.specs.declared.world.World.{World}
 use Rattle.vn_cells.specs.world.Names.{Path, Key, path_eq, above, key_of}
-use Rattle.vn_cells.specs.world.World.{no_stack, stack_at, pair_at, is_alive, ifs_in, ifs_of, live_map, on_parts}
-use Rattle.vn_cells.specs.commands.Jails.{recount, one_less, recount_above, rows}
+use Rattle.vn_cells.specs.world.World.{stack_at, pair_at, is_alive, ifs_in, ifs_of, on_parts}
+use Rattle.vn_cells.specs.commands.Jails.{one_less, recount_above, rows}
 use Rattle.vn_cells.specs.commands.Moves.{moved}
 use Rattle.vn_cells.specs.commands.Pairs.{destroyed_pair}
-use Rattle.vn_cells.specs.commands.Removal.{lent_here, homed_at, sent_home, without_pairs, run_down, torn_down, killed, destroyed, destroyed_all, living_under, removed}
+use Rattle.vn_cells.specs.commands.Removal.{lent_here, homed_at, sent_home, without_pairs, run_down, torn_down, destroyed, destroyed_all, living_under, removed}
 use Rattle.vn_cells.specs.sets.Sets.{in_stacks}
 use Rattle.vn_laws.specs.Relations.{Belongs, owns_ifs}
-use Rattle.vn_laws.proofs.edits.Cells.{path_eq-same, none_lives, stack_at-each_stack}
+use Rattle.vn_laws.proofs.edits.Cells.{path_eq-same}
 use Rattle.vn_laws.proofs.edits.Owned.{Owned, own_pair, owned-edit_live, owned-shape}
 use Rattle.vn_laws.proofs.edits.Shapes.{shape-edit_stack}
 use Rattle.vn_laws.proofs.jails.Counted.{recounted}
+use Rattle.vn_laws.proofs.jails.Killed.{killed_stack}
 use Rattle.vn_laws.proofs.moves.Belongs.{owned-moved}
 use Rattle.vn_laws.proofs.pairs.Belongs.{owned-unmade}
 
@@ -56,20 +57,6 @@ module _ (set : Cells) (p : Path) where
     owned-torn_down clock [] o = o
     owned-torn_down clock (row ∷ more) {w} o =
         owned-shape (owned-run_down row.down (owned-torn_down clock more o)) (shape-edit_stack p _ _ (λ s. refl))
-
--- the stack lives no more
-module _ (p : Path) (w : World) where
-  abbrev dead_at : Path → Stack → Stack
-  dead_at q s = if path_eq q p then record s { live = None } else recount_above p one_less q s
-
-  killed_stack : (q : Path) → stack_at (killed p w) q ≡ dead_at q (stack_at w q)
-  unfolding killed
-  killed_stack q = stack_at-each_stack dead_at w q (none (path_eq q p) (list_any (path_eq q) (above p)))
-    where
-      none : (a b : Bool)
-          → (if a then record no_stack { live = None } else if b then live_map (recount one_less) no_stack else no_stack) ≡ no_stack
-      none true b = refl
-      none false b = none_lives b (recount one_less)
 
 module _ {set : Cells} {v : World} (b : Belongs set v) (clock : ℕ) (p : Path) where
   abbrev torn : World
