@@ -1,0 +1,15 @@
+use Rattle.std.proofs.Common.{sym, ap, ◌∙◌}
+use Rattle.vn_types.specs.declared.interface.HalfId.{HalfId}
+use Rattle.vn_rules.specs.declared.ping.PingsOf.{PingsOf}
+use Rattle.vn_rules.specs.Pings.{timers_without}
+use Rattle.vn_callout.specs.Stacks.{of as timers_of}
+use Rattle.vn_icmp.specs.Stacks.{of}
+use Rattle.vn_icmp.specs.Which.{is_one}
+use Rattle.vn_icmp.proofs.Stopped.{none-stopped}
+use Rattle.vn_icmp.proofs.pings.Pings.purge.Goals as goal
+
+pub returns-in_default-clause-stopped : goal.returns-in_default-clause-stopped
+returns-in_default-clause-stopped c =
+    sym (none-stopped (is_one c.args.which) (timers_of c.args.wheel.now c.args.sid.0))
+    ∙ ap (λ (p : PingsOf HalfId). timers_without (is_one c.args.which) p.awaited (timers_of c.args.wheel.now c.args.sid.0)) (sym c.in_default.ensures.row)
+    ∙ ap (λ rows. timers_without (is_one c.args.which) (of rows c.args.sid.0).awaited (timers_of c.args.wheel.now c.args.sid.0)) c.self.view_is
