@@ -8,6 +8,7 @@ pub mod Commands
 pub mod Steps
 pub mod versions
 pub mod schedules
+pub mod growth
 pub mod Touched
 pub mod Opening
 pub mod Isolated

@@ -5,3 +5,4 @@ pub mod Removals
 pub mod WorkedRows
 pub mod PairSets
 pub mod Versions
+pub mod Growth

@@ -1,4 +1,4 @@
-ghost use Rattle.std.specs.Prelude.{◌≡◌, ◌≤◌, ◌↔◌, ◌*◌, None, List, length};
+ghost use Rattle.std.specs.Prelude.{◌≡◌, ◌≤◌, ◌↔◌, ℕ, None, List, length};
 ghost use Rattle.vn_cells.specs.declared.event.Event.{Event as AnyEvent};
 ghost use Rattle.vn_cells.specs.declared.event.TheConstants.{EVENTS_MAX};
 ghost use Rattle.vn_cells.specs.declared.script.Script.{Script as AnyScript};
@@ -7,6 +7,7 @@ ghost use Rattle.vn_cells.specs.machine.Deliveries.{next_delivery, settle_events
 ghost use Rattle.vn_cells.specs.machine.Events.{IsValid};
 ghost use Rattle.vn_cells.specs.machine.Step.{run, run_from};
 ghost use Rattle.vn_cells.specs.texts.Schedule.{InOrder, IsSchedule, serial_run};
+ghost use Rattle.vn_laws.specs.Growth.{IsSmall};
 
 /// Where the lines of a phase are done in script order, a script asks for one history.
 pub fn law_of_schedules()
@@ -20,8 +21,9 @@ pub fn law_of_settling()
         → next_delivery (run_from w (settle_events w)) ≡ None }
 {}
 
-/// The clock is at most a day for each event. What timers and counters come to is not told here.
+/// After n events, or fewer, the clock is at most n days, each living stack armed at most 2 n timers, and each of
+/// its counters is at most n (n + 17).
 pub fn law_of_growth()
-    ensures { (events : List AnyEvent) → IsValid events
-        → (run events).clock ≤ 86400000 * length events }
+    ensures { (events : List AnyEvent) (n : ℕ) → IsValid events → length events ≤ n
+        → IsSmall n (run events) }
 {}

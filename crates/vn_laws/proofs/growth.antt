@@ -1,0 +1,8 @@
+-- What a run of so many events comes to at most.
+pub mod Parts
+pub mod Edits
+pub mod Links
+pub mod Jails
+pub mod Acted
+pub mod Steps
+pub mod Runs

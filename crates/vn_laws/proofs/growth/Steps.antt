@@ -1,0 +1,57 @@
+-- One event: what it arms and counts.
+use Rattle.std.proofs.Common.{◌≡◌, ℕ, ◌+◌, Bool, true, false, None, Some}
+use Rattle.vn_types.specs.declared.interface.IfName.TheVariants.{Lo0, Epair}
+use Rattle.vn_rules.specs.Construction.{no_drops}
+use Rattle.vn_rules.specs.Rules.{Common}
+use Rattle.vn_cells.specs.declared.event.Event.{Event}
+use Rattle.vn_cells.specs.declared.event.Event.TheVariants as event
+use Rattle.vn_cells.specs.declared.world.World.{World}
+use Rattle.vn_cells.specs.world.Names.{Path}
+use Rattle.vn_cells.specs.world.World.{common_of}
+use Rattle.vn_cells.specs.commands.Taken.{standing, lowest_free}
+use Rattle.vn_cells.specs.machine.Commands.{far_rule}
+use Rattle.vn_cells.specs.machine.Reach.{Reach, reach, Near, MakesJail, RemovesJail, MakesPair, DestroysPair, SetsMac, Lends, Reclaims, MovesLo0}
+use Rattle.vn_cells.specs.machine.Step.{acting, acted, step}
+use Rattle.vn_laws.proofs.growth.Acted.{counted-act_by, raises-local}
+use Rattle.vn_laws.proofs.growth.Edits.{Counted, counted-weaker, counted-shape, counted-stacks}
+use Rattle.vn_laws.proofs.growth.Jails.{counted-created, counted-removed}
+use Rattle.vn_laws.proofs.growth.Links.{counted-made_pair, counted-lowest, counted-destroyed_by, counted-with_mac_on, counted-moved_on}
+use Rattle.vn_laws.proofs.growth.Parts.{Numbers, is_small, small-more, none-small}
+use Rattle.vn_laws.proofs.local.Events.{shape-later, stack-delivered, either_acted}
+use Rattle.vn_laws.proofs.rule.Answers.{shape-entered, commanded-keeps}
+
+-- a command that reaches beyond its stack arms no timer and counts nothing
+counted-far : {test : Numbers → Bool} → test (0, no_drops) ≡ true → {v : World} → Counted test v → (common : Common) (issuer : Path) (r : Reach)
+    → Counted test (far_rule common issuer r v).otherwise.left
+unfolding far_rule
+counted-far none c common issuer Near = c
+counted-far none c common issuer (MakesJail p limit) = counted-created none c common.clock p limit
+counted-far none c common issuer (RemovesJail p) = counted-removed c common.clock p
+counted-far none {v} c common issuer (MakesPair None) = counted-lowest c issuer (lowest_free v issuer)
+counted-far none c common issuer (MakesPair (Some unit)) = counted-made_pair c (issuer, unit)
+counted-far none {v} c common issuer (DestroysPair unit side) = counted-destroyed_by c (standing v issuer (Epair unit side))
+counted-far none {v} c common issuer (SetsMac unit side mac) = counted-with_mac_on c (standing v issuer (Epair unit side)) mac
+counted-far none {v} c common issuer (Lends unit side jail) = counted-moved_on c (standing v issuer (Epair unit side)) issuer jail
+counted-far none {v} c common issuer (Reclaims unit side jail) = counted-moved_on c (standing v jail (Epair unit side)) jail issuer
+counted-far none {v} c common issuer (MovesLo0 jail true) = counted-moved_on c (standing v issuer Lo0) issuer jail
+counted-far none {v} c common issuer (MovesLo0 jail false) = counted-moved_on c (standing v jail Lo0) jail issuer
+
+module _ (n : ℕ) {v : World} (c : Counted (is_small n) v) where
+  still : Counted (is_small (n + 1)) v
+  still = counted-weaker (small-more n) c
+
+  small-acted : (event : Event) → Counted (is_small (n + 1)) (acted (acting v event) event v)
+  small-acted event =
+      either_acted (Counted (is_small (n + 1))) (acting v event) event v still (λ p. counted-act_by (raises-local n) c p event)
+
+  -- an event more
+  pub small-step : (event : Event) → Counted (is_small (n + 1)) (step v event)
+  unfolding step
+  small-step (event.Cmd lane issuer command) =
+      commanded-keeps (Counted (is_small (n + 1))) lane issuer command v still
+      (λ a d. counted-shape d (shape-entered v.clock lane issuer command a))
+      (counted-act_by (raises-local n) c issuer (event.Cmd lane issuer command))
+      (λ none. counted-far (none-small (n + 1)) still (common_of v) issuer (reach issuer command))
+  small-step (event.Tick k) = counted-shape still (shape-later k v)
+  small-step (event.Deliver half) = counted-stacks still (stack-delivered half v)
+  small-step event = small-acted event
