@@ -12,7 +12,7 @@ use Rattle.vn_types.proofs.Ancestors.{is_host-path_eq}
 use Rattle.vn_rules.specs.Soundness.{is_sound_parts}
 use Rattle.vn_cells.specs.declared.cell.Cells.{Cells}
 use Rattle.vn_cells.specs.declared.world.Stack.{Stack}
-use Rattle.vn_cells.specs.world.Names.{Path, Key, If, path_cmp, is_host, is_under, above, parent, if_eq, key_of, half_eq}
+use Rattle.vn_cells.specs.world.Names.{Path, Key, If, path_cmp, is_host, is_under, parent, if_eq, key_of, half_eq}
 use Rattle.vn_types.specs.Entries.{find}
 use Rattle.vn_cells.specs.world.World.{no_stack, stack_at, pair_at, is_alive, ifs_of}
 use Rattle.vn_cells.specs.commands.Jails.{construct}
@@ -21,6 +21,7 @@ use Rattle.vn_cells.specs.keeping.Standing.{IsStanding, is_placed, stands_at, ti
 use Rattle.vn_cells.specs.keeping.Sound.{IsSound, IsTree, living_below, counts_right}
 use Rattle.vn_laws.specs.Relations.{Belongs, owns_ifs}
 use Rattle.vn_rules.proofs.Constructed.{constructed_parts-sound}
+use Rattle.vn_laws.proofs.edits.Paths.{parent_host}
 
 -- host alone is listed
 pub opening_stack : (q : Path) → stack_at opening q ≡ (if is_host q then construct 0 None no_stack else no_stack)
@@ -48,11 +49,6 @@ opening_alive p = ap (λ (s : Stack). is_some s.live) (opening_stack p) ∙ by (
 host_is : is_host [] ≡ true
 unfolding is_host
 host_is = refl
-
-host_parent : (p : Path) → is_host p ≡ true → is_host (parent p) ≡ true
-unfolding is_host above
-host_parent [] e = refl
-host_parent (l ∷ p) e = cc
 
 listed_opening : (p : Path) (on : If) → count_by (if_eq on) (ifs_of (stack_at opening p)) ≡ times_listed opening p on
 listed_opening p on = ap (λ s. count_by (if_eq on) (ifs_of s)) (opening_stack p) ∙ by on (is_host p) (opening_alive p)
@@ -82,7 +78,7 @@ tree-opening : IsTree opening
 unfolding IsStrictlySortedBy
 tree-opening = record {
   host = opening_alive [] ∙ host_is;
-  parents = λ p e. opening_alive (parent p) ∙ host_parent p (sym (opening_alive p) ∙ e);
+  parents = λ p e. opening_alive (parent p) ∙ parent_host p (sym (opening_alive p) ∙ e);
   counted = λ p.
       ap (λ (s : Stack). counts_right (living_below opening p) p s.live) (opening_stack p) ∙ by p (is_host p) refl;
   stacks_ordered = (tt, tt);

@@ -8,9 +8,7 @@ use Rattle.std.proofs.lemmas.Bool.Decides.{Decides-eqb}
 use Rattle.vn_types.specs.declared.errno.Errno.TheVariants as errno
 use Rattle.vn_types.specs.PathOrder.{path_eq-Decides}
 use Rattle.vn_types.proofs.Ancestors.{passes-above}
-use Rattle.vn_types.specs.declared.half.Half.{Half}
 use Rattle.vn_rules.specs.Rules.{Common, answer, refused}
-use Rattle.vn_rules.specs.Scenes.{SceneOf}
 use Rattle.vn_cells.specs.declared.cell.Cells.{Cells}
 use Rattle.vn_cells.specs.declared.cell.CellName.TheVariants.{Stack as OfStack}
 use Rattle.vn_cells.specs.declared.command.Command.{Command}
@@ -24,8 +22,8 @@ use Rattle.vn_cells.specs.world.Names.{Path, path_eq, is_host, is_below}
 use Rattle.vn_cells.specs.world.World.{common_of, stack_at, is_alive}
 use Rattle.vn_cells.specs.machine.Events.{is_at_path, is_valid_command, is_valid_event}
 use Rattle.vn_cells.specs.machine.Reach.{Reach, Near, reach}
-use Rattle.vn_cells.specs.machine.Commands.{near_rule, far_rule}
-use Rattle.vn_cells.specs.machine.Local.{Here, local, near_answer, act}
+use Rattle.vn_cells.specs.machine.Commands.{far_rule}
+use Rattle.vn_cells.specs.machine.Local.{Here, local, act}
 use Rattle.vn_cells.specs.machine.Queues.{has_datagram, has_due}
 use Rattle.vn_cells.specs.machine.Step.{entered, ran_by, commanded, where_true, acting, acted, step}
 use Rattle.vn_cells.specs.sets.Sets.{in_set, in_stacks, command_deciders, deciders}
@@ -36,8 +34,8 @@ use Rattle.vn_laws.specs.Relations.{Alike, Belongs}
 use Rattle.vn_laws.proofs.edits.Alike.{alike-edit_stack}
 use Rattle.vn_laws.proofs.edits.Cells.{clock-edit_stack}
 use Rattle.vn_laws.proofs.edits.Counts.{one_living_less}
-use Rattle.vn_laws.proofs.edits.Shapes.{SameShape, shape_tree, sound-shape, leaves-shape, belongs-shape}
-use Rattle.vn_laws.proofs.edits.Standing.{leaves-none, leaves-then, leaves_nothing, leaves_nothing-same, belongs-same}
+use Rattle.vn_laws.proofs.edits.Shapes.{SameShape, shape_tree, belongs-shape}
+use Rattle.vn_laws.proofs.edits.Standing.{leaves_nothing, leaves_nothing-same, belongs-same}
 use Rattle.vn_laws.proofs.edits.Trees.{alive_tree}
 use Rattle.vn_laws.proofs.local.Acted.{KeepsTables, sound_scene, sound_after, tree-act_by, standing-act_by, clock-act_by, belongs-act_by, sound-act_by}
 use Rattle.vn_laws.proofs.local.Alike.{alike-local}

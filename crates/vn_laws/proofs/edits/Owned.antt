@@ -47,7 +47,8 @@ list_all_filter g f e (k ∷ ks) = by (f k) refl (list_all_filter g f e ks)
 -- ---- lists of interfaces
 
 module _ (set : Cells) where
-  abbrev owns_if : If → Bool
+  -- whether an interface is lo0 or of a pair of the set
+  abbrev pub owns_if : If → Bool
   owns_if Lo0 = true
   owns_if (OfHalf h) = in_pairs set (key_of h)
 

@@ -6,6 +6,7 @@ use Rattle.std.specs.Cmp.{nat_cmp_total}
 use Rattle.std.specs.Cmp.Lexicographic.{slice_cmp}
 use Rattle.std.specs.Str.{bytes_eq}
 use Rattle.std.specs.declared.cmp.Ordering.TheVariants.{Less, Equal}
+use Rattle.std.proofs.lemmas.Bool.{true≢false}
 use Rattle.std.proofs.lemmas.Slice.Eq.{bytes_eq-Decides}
 use Rattle.vn_types.specs.OctetOrder.{self_equal}
 use Rattle.vn_types.specs.PathOrder.{path_eq-Decides}
@@ -34,10 +35,7 @@ above-below q p top = any-above q p ∙ grind arith
 text_below : (l : List ℕ) (p q : Path) → is_under q (l ∷ p) ≡ true → path_eq (l ∷ p) q ≡ false → (rest : List ℕ) × (joined q ≡ joined (l ∷ p) ++ 46 ∷ rest)
 unfolding is_under path_eq joined
 text_below l p [] under apart = cc
-text_below l [] (m ∷ []) under apart = absurd (no under apart)
-  where
-    no : (bytes_eq l m && true) ≡ true → (bytes_eq l m && true) ≡ false → ⊥
-    no u e = cc
+text_below l [] (m ∷ []) under apart = absurd (true≢false (sym under ∙ apart))
 text_below l [] (m ∷ n ∷ q) under apart = (joined (n ∷ q), ap (λ t. t ++ 46 ∷ joined (n ∷ q)) (sym ((bytes_eq-Decides l m).0 (grind (arith, under)))))
 text_below l (x ∷ p) (m ∷ []) under apart = absurd (no under)
   where

@@ -27,7 +27,8 @@ pub record SameShape (v w : World) : Type 0 where
   pub ordered : Ordered v → Ordered w
   pub pairs_ordered : OrderedPairs v → OrderedPairs w
 
-abbrev with_live : Option Live → Stack
+-- a stack with what lives there, and nothing else
+abbrev pub with_live : Option Live → Stack
 with_live o = record { entries = []; readers = []; live = o }
 
 pub shape_tree : {v w : World} → SameShape v w → SameTree v w

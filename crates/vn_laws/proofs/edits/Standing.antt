@@ -1,6 +1,6 @@
 -- Edits after which the halves stand and are listed as before.
 use Rattle.std.proofs.Common.{◌≡◌, Bool, true, false, ◌&&◌, Option, Some, None, refl, sym, ap, ◌∙◌, ◌⊎◌, inl, inr}
-use Rattle.std.specs.Prelude.{count_by}
+use Rattle.std.specs.Prelude.{if◌then◌else◌, count_by}
 use Rattle.std.specs.Option.{option_map, is_some}
 use Rattle.std.proofs.lemmas.Bool.{and_parts, and_from}
 use Rattle.vn_types.specs.declared.half.Half.{Half}
@@ -167,3 +167,21 @@ leaves_nothing {v} {w} l = record {
         → (place h (pair_at w (key_of h)) ≡ place h (pair_at v (key_of h))) ⊎ IsGone h w → IsGone h w
     gone h moved (inl e) = absurd (moved e)
     gone h moved (inr g) = g
+
+-- ---- a pair that may be gone
+
+-- what stands of it stood before
+pub stood-if : (p : Path) (side : Side) (b : Bool) (o : Option Pair)
+    → stands_at p side (if b then None else o) ≡ true → stands_at p side o ≡ true
+stood-if p side true o e = cc
+stood-if p side false o e = e
+
+-- and it existed
+pub existed-if : (b : Bool) (o : Option Pair) → is_some (if b then None else o) ≡ true → is_some o ≡ true
+existed-if true o e = cc
+existed-if false o e = e
+
+-- its queues have room as before
+pub queues-if : (b : Bool) (o : Option Pair) → has_queues o ≡ true → has_queues (if b then None else o) ≡ true
+queues-if true o e = refl
+queues-if false o e = e

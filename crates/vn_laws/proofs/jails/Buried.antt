@@ -11,7 +11,6 @@ use Rattle.vn_types.specs.declared.interface.Side.{Side}
 use Rattle.vn_types.specs.declared.interface.Side.TheVariants.{A, B}
 use Rattle.vn_types.specs.PathOrder.{path_eq-Decides}
 use Rattle.vn_rules.specs.Soundness.{is_sound_parts}
-use Rattle.vn_cells.specs.declared.world.Live.{Live}
 use Rattle.vn_cells.specs.declared.world.Pair.{Pair}
 use Rattle.vn_cells.specs.declared.world.Stack.{Stack}
 use Rattle.vn_cells.specs.declared.world.World.{World}
@@ -27,7 +26,7 @@ use Rattle.vn_laws.specs.Removals.{HomeAlone}
 use Rattle.vn_laws.proofs.edits.Paths.{path_eq-sym, below-parent, above-below, parent_host}
 use Rattle.vn_laws.proofs.edits.Cells.{Ordered}
 use Rattle.vn_laws.proofs.edits.Counts.{one_living_less, same_living_but}
-use Rattle.vn_laws.proofs.edits.Standing.{named-fewer}
+use Rattle.vn_laws.proofs.edits.Standing.{named-fewer, stood-if, existed-if, queues-if}
 use Rattle.vn_laws.proofs.pairs.Listed.{has-count}
 use Rattle.vn_laws.proofs.pairs.Cut.{forgets_there}
 use Rattle.vn_laws.proofs.jails.Counted.{recounted, recounted_right}
@@ -35,6 +34,7 @@ use Rattle.vn_laws.proofs.jails.Home.{stands}
 use Rattle.vn_laws.proofs.edits.Fine.{Fine}
 use Rattle.vn_laws.proofs.jails.Killed.{killed_stack, killed_pair, killed_ordered, killed_pairs}
 use Rattle.vn_laws.proofs.jails.Own.{OwnOnly, NoneHomed}
+use Rattle.vn_laws.proofs.edits.Shapes.{with_live}
 
 -- ---- it dies
 
@@ -73,9 +73,6 @@ module _ {v w : World} (s : IsSound v) (q : Path) (alive : is_alive v q ≡ true
       by : (b : Bool) → path_eq r q ≡ b → is_alive (killed q w) r ≡ (is_alive v r && not b)
       by true e = ap is_some (buried_none r e) ∙ grind arith
       by false e = ap (λ (t : Stack). is_some t.live) (buried_stack r e) ∙ recounted is_some (λ live c. refl) (list_any (path_eq r) (above q)) one_less (stack_at v r) ∙ grind arith
-
-  abbrev with_live : Option Live → Stack
-  with_live l = record { entries = []; readers = []; live = l }
 
   -- a half of a pair that is homed there stood nowhere else
   elsewhere : (r : Path) (h : Half) → path_eq r q ≡ false → path_eq h.home q ≡ true → stands v r h ≡ false
@@ -172,7 +169,7 @@ module _ {v w : World} (s : IsSound v) (q : Path) (alive : is_alive v q ≡ true
       places = placed_buried;
       listed = listed_buried;
       tables = λ r. tables r (path_eq r q) refl;
-      queues = λ k. ap has_queues (buried_pair k) ∙ queues (path_eq k.0 q) (pair_at v k) (s.standing.queues k);
+      queues = λ k. ap has_queues (buried_pair k) ∙ queues-if (path_eq k.0 q) (pair_at v k) (s.standing.queues k);
       pairs_ordered = killed_pairs q w (o.pairs_ordered s.standing.pairs_ordered);
     };
     tree = record {
@@ -181,26 +178,14 @@ module _ {v w : World} (s : IsSound v) (q : Path) (alive : is_alive v q ≡ true
       counted = counted_buried;
       stacks_ordered = buried_ordered;
     };
-    names = named-fewer s.names (record { stood = λ p h e. stood p h (path_eq h.home q) (sym (ap (stands_at p h.side) (buried_pair (key_of h))) ∙ e); existed = λ k e. existed k (path_eq k.0 q) (sym (ap is_some (buried_pair k)) ∙ e) });
+    names = named-fewer s.names (record { stood = λ p h e. stood-if p h.side (path_eq h.home q) (pair_at v (key_of h)) (sym (ap (stands_at p h.side) (buried_pair (key_of h))) ∙ e); existed = λ k e. existed-if (path_eq k.0 q) (pair_at v k) (sym (ap is_some (buried_pair k)) ∙ e) });
   }
     where
-      stood : (p : Path) (h : Half) (b : Bool) → stands_at p h.side (if b then None else pair_at v (key_of h)) ≡ true → stands v p h ≡ true
-      stood p h true e = cc
-      stood p h false e = e
-
-      existed : (k : Key) (b : Bool) → is_some (if b then None else pair_at v k) ≡ true → is_some (pair_at v k) ≡ true
-      existed k true e = cc
-      existed k false e = e
-
       tables : (r : Path) (b : Bool) → path_eq r q ≡ b → passes (is_sound_parts half_eq) (stack_at (killed q w) r).live ≡ true
       tables r true e = ap (passes (is_sound_parts half_eq)) (buried_none r e)
       tables r false e =
           ap (λ (t : Stack). passes (is_sound_parts half_eq) t.live) (buried_stack r e)
           ∙ recounted (passes (is_sound_parts half_eq)) (λ live c. refl) (list_any (path_eq r) (above q)) one_less (stack_at v r) ∙ s.standing.tables r
-
-      queues : (b : Bool) (o : Option Pair) → has_queues o ≡ true → has_queues (if b then None else o) ≡ true
-      queues true o e = refl
-      queues false o e = e
 
       host_apart : (b : Bool) → path_eq [] q ≡ b → b ≡ false
       host_apart false e = refl

@@ -12,13 +12,13 @@ use Rattle.vn_cells.specs.declared.world.Pair.{Pair}
 use Rattle.vn_cells.specs.declared.world.Stack.{Stack}
 use Rattle.vn_cells.specs.declared.world.World.{World}
 use Rattle.vn_cells.specs.world.Names.{Path, Key, If, key_of, path_eq, above}
-use Rattle.vn_cells.specs.world.World.{no_stack, pair_at, noting, noted, entry_of, live_map, on_parts}
+use Rattle.vn_cells.specs.world.World.{pair_at, noting, noted, entry_of, live_map, on_parts}
 use Rattle.vn_cells.specs.commands.Jails.{rows, recount, one_less}
 use Rattle.vn_cells.specs.commands.Pairs.{new_pair, made_pair, unmade, destroyed_pair, destroyed_by, with_mac_on}
 use Rattle.vn_cells.specs.commands.Moves.{moved, moved_on}
 use Rattle.vn_cells.specs.commands.Removal.{lent_here, homed_at, sent_home, without_pairs, run_down, torn_down, killed, living_under, destroyed_all, removed}
-use Rattle.vn_laws.proofs.edits.Cells.{none_lives}
 use Rattle.vn_laws.proofs.edits.Goes.{TellsMore, Goes, goes-none, goes-then, goes-edit_stack, goes-each_stack, goes-edit_live, goes-add_pair, goes-drop_pair, goes-each_pair}
+use Rattle.vn_laws.proofs.jails.Killed.{none-killed}
 
 module _ (v : World) where
   pub goes-made_pair : (k : Key) → Goes v (made_pair k v)
@@ -86,17 +86,13 @@ goes-torn_down clock p (row ∷ more) v =
 
 goes-killed : (p : Path) (v : World) → Goes v (killed p v)
 unfolding killed
-goes-killed p v = goes-each_stack v _ (λ q. none (path_eq q p) (list_any (path_eq q) (above p))) (λ q s. by (path_eq q p) (list_any (path_eq q) (above p)) s)
+goes-killed p v = goes-each_stack v _ (λ q. none-killed (path_eq q p) (list_any (path_eq q) (above p))) (λ q s. by (path_eq q p) (list_any (path_eq q) (above p)) s)
     (λ q s. kept (path_eq q p) (list_any (path_eq q) (above p)) s)
   where
     kept : (a b : Bool) (s : Stack) → (if a then record s { live = None } else (if b then live_map (recount one_less) s else s)).readers ≡ s.readers
     kept true b s = refl
     kept false true s = refl
     kept false false s = refl
-
-    none : (a b : Bool) → (if a then no_stack else (if b then live_map (recount one_less) no_stack else no_stack)) ≡ no_stack
-    none true b = refl
-    none false b = none_lives b (recount one_less)
 
     by : (a b : Bool) (s : Stack) → TellsMore s (if a then record s { live = None } else (if b then live_map (recount one_less) s else s))
     by true b s = omega arith

@@ -9,7 +9,7 @@ use Rattle.vn_types.specs.declared.half.Half.{Half}
 use Rattle.vn_types.specs.declared.interface.Side.{Side}
 use Rattle.vn_types.specs.declared.interface.IfOf.TheVariants.{Lo0, Half as OfHalf}
 use Rattle.vn_types.specs.PathOrder.{path_eq-Decides}
-use Rattle.vn_types.proofs.Ancestors.{any-above, passes-above, is_host-is}
+use Rattle.vn_types.proofs.Ancestors.{passes-above, is_host-is}
 use Rattle.vn_rules.specs.declared.parts.PartsOf.{PartsOf}
 use Rattle.vn_rules.specs.Interfaces.{named_ifs}
 use Rattle.vn_rules.specs.Construction.{constructed_parts}
@@ -33,6 +33,8 @@ use Rattle.vn_laws.proofs.edits.Counts.{one_living_less, same_living_but}
 use Rattle.vn_laws.proofs.edits.Standing.{SamePlaces, places, still_placed, named-same, same_place}
 use Rattle.vn_laws.proofs.jails.Counted.{recounted, recounted_right}
 use Rattle.vn_laws.proofs.jails.Created.{more, fresh, created_stack, created_pair, created_ordered, created_pairs, created_alive}
+use Rattle.vn_laws.proofs.edits.Paths.{above-below, path_eq-sym}
+use Rattle.vn_laws.proofs.edits.Tests.{either}
 
 -- a stack that was just constructed names no half
 pub new_forgets : (h : Half) → forgets h constructed_parts ≡ true
@@ -60,16 +62,6 @@ none_below w p none = none_filtered (λ q. is_alive w q && is_below q p) (λ q. 
 live_none : (o : Option Live) → is_some o ≡ false → o ≡ None
 live_none None e = refl
 live_none (Some live) e = cc
-
-either : (a b : Bool) → (a || b) ≡ true → a ≡ false → b ≡ true
-either a b h e = grind (arith, h, e)
-
--- the proper ancestors other than host
-above-below : (q p : Path) → is_host p ≡ false → list_any (path_eq p) (above q) ≡ is_below q p
-above-below q p top = any-above q p ∙ grind (arith, top)
-
-path_eq-sym : (p q : Path) → path_eq p q ≡ path_eq q p
-path_eq-sym p q = grind (arith, path_eq-Decides p q, path_eq-Decides q p)
 
 module _ {v : World} (s : IsSound v) (clock : ℕ) (p : Path) (limit : ℕ) (dead : is_alive v p ≡ false)
     (parent_lives : is_alive v (parent p) ≡ true) where

@@ -19,13 +19,14 @@ use Rattle.vn_laws.proofs.jails.Counted.{recounted}
 abbrev gone_dead : Path → Path → Stack → Stack
 gone_dead q r s = if path_eq r q then record s { live = None } else recount_above q one_less r s
 
+-- what is not listed stays so
+pub none-killed : (a b : Bool) → (if a then no_stack else (if b then live_map (recount one_less) no_stack else no_stack)) ≡ no_stack
+none-killed true b = refl
+none-killed false b = none_lives b (recount one_less)
+
 pub killed_stack : (q : Path) (v : World) (r : Path) → stack_at (killed q v) r ≡ gone_dead q r (stack_at v r)
 unfolding killed
-killed_stack q v r = stack_at-each_stack (gone_dead q) v r (by (path_eq r q) (list_any (path_eq r) (above q)))
-  where
-    by : (a b : Bool) → (if a then no_stack else (if b then live_map (recount one_less) no_stack else no_stack)) ≡ no_stack
-    by true b = refl
-    by false b = none_lives b (recount one_less)
+killed_stack q v r = stack_at-each_stack (gone_dead q) v r (none-killed (path_eq r q) (list_any (path_eq r) (above q)))
 
 pub killed_pair : (q : Path) (v : World) (k : Key) → pair_at (killed q v) k ≡ pair_at v k
 unfolding killed

@@ -103,11 +103,9 @@ has-but on h (k ∷ ifs) = by (if_eq k (OfHalf h)) refl (if_eq on k) refl (has-b
 
 pub has-last : (on : If) (h : Half) (ifs : List If)
     → list_any (if_eq on) (ifs ++ OfHalf h ∷ []) ≡ (list_any (if_eq on) ifs || if_eq on (OfHalf h))
-has-last on h ifs = list_any-append (if_eq on) ifs (OfHalf h ∷ []) ∙ ap (λ b. list_any (if_eq on) ifs || b) (one (if_eq on (OfHalf h)))
-  where
-    one : (b : Bool) → (b || false) ≡ b
-    one true = refl
-    one false = refl
+has-last on h ifs =
+    let alone : (if_eq on (OfHalf h) || false) ≡ if_eq on (OfHalf h) = grind arith in
+    list_any-append (if_eq on) ifs (OfHalf h ∷ []) ∙ ap (λ b. list_any (if_eq on) ifs || b) alone
 
 -- the halves among the interfaces
 pub has_half-has : (h : Half) (ifs : List If) → has_half (halves_of ifs) h ≡ has h ifs

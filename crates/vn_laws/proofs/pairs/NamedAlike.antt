@@ -19,7 +19,7 @@ use Rattle.vn_cells.specs.commands.Taken.{standing, is_another, is_native, is_re
 use Rattle.vn_cells.specs.keeping.Sound.{IsSound}
 use Rattle.vn_cells.specs.sets.Sets.{in_set, in_stacks, in_pairs, pair_deciders}
 use Rattle.vn_laws.specs.Relations.{Alike, Belongs}
-use Rattle.vn_laws.proofs.edits.Owned.{Owns, own_pair, owns-member}
+use Rattle.vn_laws.proofs.edits.Owned.{Owns, own_pair, owns-member, owns_if}
 use Rattle.vn_laws.proofs.pairs.Named.{host_on, host_half, host_named, host_standing, named_found}
 
 -- the deciders of a pair are in a set
@@ -54,12 +54,8 @@ owns_standing {set} {v} s b [] unit side all = by (standing v [] (ifname.Epair u
     by (Some Lo0) e = tt
     by (Some (OfHalf h)) e =
         let same : OfHalf h ≡ OfHalf (host_half s unit side) = host_named s unit side (OfHalf h) e in
-        owned (ap (pair_of) same)
+        owned (ap (owns_if set) same)
       where
-        pair_of : If → Bool
-        pair_of Lo0 = true
-        pair_of (OfHalf g) = in_pairs set (key_of g)
-
         owned : in_pairs set (key_of h) ≡ in_pairs set ([], unit) → in_pairs set (key_of h) ≡ true
         owned f = f ∙ (and_parts (in_pairs set ([], unit)) true all).0
 

@@ -26,22 +26,19 @@ use Rattle.vn_laws.proofs.pairs.Listed.{but, has, if_eq-is}
 
 -- ---- a half that isn't listed
 
-abbrev names : Half → List If → Bool
-names h ons = list_any (if_eq (OfHalf h)) ons
-
 -- what is not listed is not named
-none_named : (h : Half) (ifs ons : List If) → list_all (is_among half_eq ifs) ons ≡ true → has h ifs ≡ false → names h ons ≡ false
+none_named : (h : Half) (ifs ons : List If) → list_all (is_among half_eq ifs) ons ≡ true → has h ifs ≡ false → has h ons ≡ false
 none_named h ifs [] e out = refl
 none_named h ifs (on ∷ ons) e out = by (if_eq (OfHalf h) on) refl (none_named h ifs ons (and_parts _ _ e).1 out)
   where
-    by : (b : Bool) → if_eq (OfHalf h) on ≡ b → names h ons ≡ false → (b || names h ons) ≡ false
+    by : (b : Bool) → if_eq (OfHalf h) on ≡ b → has h ons ≡ false → (b || has h ons) ≡ false
     by true f ih =
         absurd (true≢false (sym (and_parts _ _ e).0 ∙ ap (λ x. list_any (if_eq x) ifs) (sym (if_eq-is (OfHalf h) on f)) ∙ out))
     by false f ih = ih
 
 -- a timer on the half is no entry's
 no_owner : (h half : Half) (ip : Ip4) (entries : List (ArpEntryOf Half)) → half_eq half h ≡ true
-    → names h (map (λ (e : ArpEntryOf Half). OfHalf e.half) entries) ≡ false
+    → has h (map (λ (e : ArpEntryOf Half). OfHalf e.half) entries) ≡ false
     → list_any (λ (a : ArpEntryOf Half). half_eq half a.half && (ip.0 == a.ip.0)) entries ≡ false
 no_owner h half ip [] same free = refl
 no_owner h half ip (a ∷ entries) same free =
@@ -51,7 +48,7 @@ no_owner h half ip (a ∷ entries) same free =
     ∙ no_owner h half ip entries same apart.1
 
 none_timed : (h : Half) (p : PartsOf Half) (es : List (Timed Half)) → list_all (has_owner half_eq p) es ≡ true
-    → names h (map (λ (e : ArpEntryOf Half). OfHalf e.half) p.arp) ≡ false
+    → has h (map (λ (e : ArpEntryOf Half). OfHalf e.half) p.arp) ≡ false
     → list_any (λ (e : Timed Half). is_timer_of half_eq h e.1) es ≡ false
 none_timed h p [] all free = refl
 none_timed h p ((at, Ping id arm) ∷ es) all free = none_timed h p es (and_parts _ _ all).1 free

@@ -24,7 +24,7 @@ use Rattle.vn_laws.specs.Relations.{Leaves, IsGone}
 use Rattle.vn_laws.proofs.edits.Names.{half_eq-Decides, same_half}
 use Rattle.vn_laws.proofs.edits.Paths.{path_eq-sym}
 use Rattle.vn_laws.proofs.edits.Cells.{stack_at-edit_live, stack_at-drop_pair, pair_at-each_stack, pair_at-drop_pair, ordered-each_stack, ordered_pairs-drop_pair, Ordered, OrderedPairs, stacks-drop_pair, pairs-each_stack}
-use Rattle.vn_laws.proofs.edits.Standing.{leaves-none, named-fewer}
+use Rattle.vn_laws.proofs.edits.Standing.{leaves-none, named-fewer, stood-if, existed-if, queues-if}
 use Rattle.vn_laws.proofs.edits.Trees.{SameTree, tree_of, tree-same, alive_tree}
 use Rattle.vn_laws.proofs.pairs.Listed.{count, has-count}
 use Rattle.vn_laws.proofs.pairs.Cut.{changed_tree, cut, cut_ifs, ifs_cut, sound_cut, forgets_cut, own_cut, count_cut, count_cut-own, count_cut-none}
@@ -111,25 +111,13 @@ module _ (k : Key) (pair : Pair) (v : World) where
         places = λ q side. ap (is_placed (unmade k (Some pair) v) q side) (unmade_pair q) ∙ by q side (key_eq q k) (pair_at v q) (s.standing.places q side);
         listed = listed_unmade;
         tables = λ q. ap (λ (t : Stack). passes (is_sound_parts half_eq) t.live) (unmade_stack q) ∙ sound_cut (half_on B k) (path_eq q pair.b.at) _ (sound_cut (half_on A k) (path_eq q pair.a.at) (stack_at v q) (s.standing.tables q));
-        queues = λ q. ap has_queues (unmade_pair q) ∙ queues (key_eq q k) (pair_at v q) (s.standing.queues q);
+        queues = λ q. ap has_queues (unmade_pair q) ∙ queues-if (key_eq q k) (pair_at v q) (s.standing.queues q);
         pairs_ordered = unmade_pairs s.standing.pairs_ordered;
       };
       tree = tree-same s.tree unmade_tree;
-      names = named-fewer s.names (record { stood = λ p h e. stood p h (key_eq (key_of h) k) (sym (ap (stands_at p h.side) (unmade_pair (key_of h))) ∙ e); existed = λ q e. existed q (key_eq q k) (sym (ap is_some (unmade_pair q)) ∙ e) });
+      names = named-fewer s.names (record { stood = λ p h e. stood-if p h.side (key_eq (key_of h) k) (pair_at v (key_of h)) (sym (ap (stands_at p h.side) (unmade_pair (key_of h))) ∙ e); existed = λ q e. existed-if (key_eq q k) (pair_at v q) (sym (ap is_some (unmade_pair q)) ∙ e) });
     }
       where
-        stood : (p : Path) (h : Half) (b : Bool) → stands_at p h.side (if b then None else pair_at v (key_of h)) ≡ true → stands_at p h.side (pair_at v (key_of h)) ≡ true
-        stood p h true e = cc
-        stood p h false e = e
-
-        existed : (q : Key) (b : Bool) → is_some (if b then None else pair_at v q) ≡ true → is_some (pair_at v q) ≡ true
-        existed q true e = cc
-        existed q false e = e
-
-        queues : (b : Bool) (o : Option Pair) → has_queues o ≡ true → has_queues (if b then None else o) ≡ true
-        queues true o e = refl
-        queues false o e = e
-
         by : (q : Key) (side : Side) (b : Bool) (o : Option Pair) → is_placed v q side o ≡ true → is_placed (unmade k (Some pair) v) q side (if b then None else o) ≡ true
         by q side true o e = refl
         by q side false None e = refl

@@ -1,14 +1,13 @@
 -- A reader's lines are those of its Open, without those that were read.
-use Rattle.std.proofs.Common.{◌≡◌, ℕ, zero, suc, Bool, true, false, ◌&&◌, ◌||◌, not, List, [], ◌∷◌, ◌++◌, map, drop, cond, Option, Some, None, refl, sym, ap, ◌∙◌, subst, arith}
-use Rattle.std.specs.Prelude.{filter, find, count_by, ◌==◌, if◌then◌else◌}
-use Rattle.std.specs.List.{list_any}
+use Rattle.std.proofs.Common.{◌≡◌, ℕ, Bool, true, false, not, List, [], ◌∷◌, ◌++◌, map, drop, cond, Option, Some, None, refl, sym, ap, ◌∙◌}
+use Rattle.std.specs.Prelude.{filter, find, ◌==◌, if◌then◌else◌}
 use Rattle.std.specs.Option.{is_some, is_none, option_map}
 use Rattle.std.proofs.lemmas.Bool.{true≢false}
 use Rattle.std.proofs.lemmas.Bool.Decides.{Decides-eqb}
 use Rattle.vn_types.specs.declared.errno.Errno.TheVariants as errno
 use Rattle.vn_types.specs.Refusals.{first_refusal}
 use Rattle.vn_rules.specs.declared.outcome.Outcome.TheVariants.{Value}
-use Rattle.vn_rules.specs.Rules.{Answer, answer, answer_by, done}
+use Rattle.vn_rules.specs.Rules.{answer, answer_by, done}
 use Rattle.vn_cells.specs.declared.world.Reader.{Reader}
 use Rattle.vn_cells.specs.machine.Readers.{is_reader_of, reader_of, lines_in, line_or_end, with_reader, open_rule, read_on, next_rule, close_rule}
 

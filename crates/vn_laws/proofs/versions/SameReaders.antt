@@ -1,5 +1,5 @@
 -- No command opens, moves on or closes a reader.
-use Rattle.std.proofs.Common.{◌≡◌, ℕ, Bool, true, false, [], ◌∷◌, List, Option, Some, None, refl, sym, ap, ◌∙◌}
+use Rattle.std.proofs.Common.{◌≡◌, ℕ, Bool, true, false, List, Option, Some, None, refl, sym, ap, ◌∙◌}
 use Rattle.std.specs.Prelude.{if◌then◌else◌}
 use Rattle.vn_types.specs.PathOrder.{path_eq-Decides}
 use Rattle.vn_types.specs.declared.half.Half.{Half}
@@ -13,7 +13,7 @@ use Rattle.vn_cells.specs.world.Names.{Path, path_eq}
 use Rattle.vn_cells.specs.world.World.{stack_at, common_of, live_map, edit_stack}
 use Rattle.vn_cells.specs.machine.Reach.{Reach, reach}
 use Rattle.vn_cells.specs.machine.Commands.{far_rule}
-use Rattle.vn_cells.specs.machine.Local.{live_after, halves_at, here_at, placed_if, told, local, act, act_by}
+use Rattle.vn_cells.specs.machine.Local.{live_after, halves_at, placed_if, told, local, act, act_by}
 use Rattle.vn_cells.specs.machine.Step.{ran, commanded}
 use Rattle.vn_laws.proofs.Commands.{goes-far}
 use Rattle.vn_laws.proofs.edits.Cells.{stack_at-edit_stack}

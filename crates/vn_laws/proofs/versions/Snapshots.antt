@@ -1,12 +1,9 @@
 -- Each Next gives the line of the listing that stood before the reader's Open.
-use Rattle.std.proofs.Common.{◌≡◌, ℕ, zero, suc, ◌+◌, Bool, true, false, ◌&&◌, ◌||◌, not, List, [], ◌∷◌, ◌++◌, drop, cond, Option, Some, None, refl, sym, ap, ◌∙◌, subst, arith}
+use Rattle.std.proofs.Common.{◌≡◌, ℕ, zero, suc, ◌+◌, Bool, true, false, ◌&&◌, ◌||◌, List, [], ◌∷◌, ◌++◌, drop, cond, Some, None, refl, sym, ap, ◌∙◌, subst, arith}
 use Rattle.std.specs.Prelude.{count_by, ◌==◌, if◌then◌else◌}
 use Rattle.std.specs.List.{list_any}
 use Rattle.std.proofs.lemmas.List.Sums.{sum_by-cons}
 use Rattle.vn_types.specs.PathOrder.{path_eq-Decides}
-use Rattle.vn_types.specs.declared.errno.Errno.{Errno}
-use Rattle.vn_rules.specs.declared.outcome.Outcome.{Outcome}
-use Rattle.vn_rules.specs.declared.outcome.Outcome.TheVariants.{Value}
 use Rattle.vn_rules.specs.Rules.{answer}
 use Rattle.vn_cells.specs.declared.event.Event.{Event}
 use Rattle.vn_cells.specs.declared.event.Event.TheVariants as event
