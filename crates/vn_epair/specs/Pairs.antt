@@ -13,22 +13,12 @@ use Rattle.vn_types.specs.declared.interface.Side.TheVariants.{A, B}
 use Rattle.vn_types.specs.Interfaces.{other_side}
 use Rattle.vn_types.specs.PerStack.{of as kept}
 use Rattle.vn_types.specs.Refusals.{first_refusal}
+use Rattle.vn_rules.specs.Macs.{first_mac}
 use Rattle.vn_epair.specs.declared.half_row.TheConstants.{FRAMES_MAX}
 use Rattle.vn_epair.specs.declared.pair_row.TheConstants.{UNIT_MAX}
 use Rattle.vn_epair.specs.Halves.{End, Pair}
 
 -- ---- one half
-
--- the last octet of a half's first hardware address
-abbrev pub side_octet : Side → ℕ
-side_octet A = 10
-side_octet B = 11
-
--- 02:00, the unit in three octets, and :0a or :0b
-abbrev pub first_mac : ℕ → Side → Mac
-first_mac unit side = record {
-  0 = 2 ∷ 0 ∷ unit / 65536 % 256 ∷ unit / 256 % 256 ∷ unit % 256 ∷ side_octet side ∷ [];
-}
 
 -- a half as it is made: at home, down, and nothing waits
 abbrev pub new_end : ℕ → ℕ → Side → End

@@ -1,6 +1,7 @@
 ghost use Rattle.std.specs.Prelude.{◌≡◌, ◌++◌, ◌∷◌, [], OnOk, OnErr, IfOk, drop, slice_get};
 ghost use Rattle.vn_types.specs.Refusals.{IsRefusedBy};
-ghost use Rattle.vn_epair.specs.Pairs.{new_end, first_mac, send_refusal, is_quiet};
+ghost use Rattle.vn_rules.specs.Macs.{first_mac};
+ghost use Rattle.vn_epair.specs.Pairs.{new_end, send_refusal, is_quiet};
 
 use bytes::Bytes;
 use std::alloc::Global;

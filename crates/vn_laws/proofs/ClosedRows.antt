@@ -17,7 +17,7 @@ use Rattle.vn_cells.specs.world.World.{stack_at, edit_stack, each_stack}
 use Rattle.vn_cells.specs.machine.Reach.{reach}
 use Rattle.vn_cells.specs.commands.Jails.{any_full, created}
 use Rattle.vn_cells.specs.machine.Commands.{far_rule}
-use Rattle.vn_cells.specs.machine.Step.{ran_by, commanded, refusal_at, step, opening}
+use Rattle.vn_cells.specs.machine.Step.{ran_by, commanded, far_refusal_at, step, opening}
 use Rattle.vn_cells.specs.sets.Sets.{in_set, in_stacks, command_deciders, deciders}
 use Rattle.vn_cells.specs.sets.Changed.{touches, is_closed_at, is_closed_from}
 use Rattle.vn_laws.specs.WorkedRows.{jail_a, jail_a_b, makes, only, family, twice, child}
@@ -58,7 +58,7 @@ family_closed = closed_if_decided family opening child refl
 abbrev parent_made : World
 parent_made = step opening (makes jail_a 1)
 
-child_accepted : refusal_at parent_made [] (command.JailCreate jail_a_b 0) ≡ None
+child_accepted : far_refusal_at parent_made [] (command.JailCreate jail_a_b 0) ≡ None
 unfolding step commanded ran_by reach far_rule answer_by any_full created edit_stack each_stack stack_at find put each path_cmp path_eq joined above
 child_accepted = refl
 

@@ -29,7 +29,7 @@ use Rattle.vn_cells.specs.machine.Reach.{Reach, Near, MakesJail, reach}
 use Rattle.vn_cells.specs.commands.Jails.{one_more_below, recount_above, created}
 use Rattle.vn_cells.specs.machine.Commands.{near_rule, far_rule}
 use Rattle.vn_cells.specs.machine.Local.{scene_in, with_link, live_after, end_after, pair_after, placed, placed_if, told, halves_at, near_answer, local, act_by}
-use Rattle.vn_cells.specs.machine.Step.{ran, entered, ran_by, commanded, refusal_at, step}
+use Rattle.vn_cells.specs.machine.Step.{ran, entered, ran_by, commanded, far_refusal_at, step}
 use Rattle.vn_laws.specs.Locality.{ChangesNear, AddsEntry, AddsJail, answered_near}
 use Rattle.vn_laws.proofs.edits.Cells.{path_eq-same, apart, own_edit, other_edit, pair_at-edit_stack, clock-edit_stack}
 use Rattle.vn_laws.proofs.local.Placed.{placed_stack, placed_pair, placed_clock}
@@ -105,7 +105,7 @@ near-answers w lane p command live near lives =
         (answered_near w.clock lane command (heard_near w lane p command live))
         (heard_near w lane p command live).left w _ (placed-near p (heard_near w lane p command live).left w) refl))
 
-pub refused-adds : (w : World) (lane : ℕ) (p : Path) (command : Command) (code : Errno) → refusal_at w p command ≡ Some code
+pub refused-adds : (w : World) (lane : ℕ) (p : Path) (command : Command) (code : Errno) → far_refusal_at w p command ≡ Some code
     → AddsEntry p (entry_of w.clock (what.Cmd lane command (outcome.Refused code))) w (step w (event.Cmd lane p command))
 unfolding step commanded ran_by far_rule answer_by
 refused-adds w lane p command code e = by (is_alive w p) e
@@ -140,13 +140,13 @@ refused-adds w lane p command code e = by (is_alive w p) e
         subst (λ c. AddsEntry p (entry_of w.clock (what.Cmd lane command (outcome.Refused c))) w (entered w.clock lane p command (refused errno.NoEnt w)))
         same (entry errno.NoEnt)
 
-pub dead-refused : (w : World) (p : Path) (command : Command) → is_alive w p ≡ false → refusal_at w p command ≡ Some errno.NoEnt
+pub dead-refused : (w : World) (p : Path) (command : Command) → is_alive w p ≡ false → far_refusal_at w p command ≡ Some errno.NoEnt
 dead-refused w p command dead =
     ap (λ b. if b then first_refusal (far_rule (common_of w) p (reach p command) w).refusals else Some errno.NoEnt) dead
 
 -- ---- a creation
 
-module _ (w : World) (lane : ℕ) (issuer path : Path) (limit : ℕ) (accepted : refusal_at w issuer (command.JailCreate path limit) ≡ None) where
+module _ (w : World) (lane : ℕ) (issuer path : Path) (limit : ℕ) (accepted : far_refusal_at w issuer (command.JailCreate path limit) ≡ None) where
   abbrev pub new : Path
   new = issuer ++ path
 

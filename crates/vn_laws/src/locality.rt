@@ -11,7 +11,7 @@ ghost use Rattle.vn_cells.specs.world.Names.{Path as AnyPath};
 ghost use Rattle.vn_cells.specs.world.World.{stack_at, is_alive, live_map};
 ghost use Rattle.vn_cells.specs.machine.Reach.{Near, reach};
 ghost use Rattle.vn_cells.specs.machine.Local.{placed, halves_at, live_after};
-ghost use Rattle.vn_cells.specs.machine.Step.{refusal_at};
+ghost use Rattle.vn_cells.specs.machine.Step.{far_refusal_at};
 ghost use Rattle.vn_laws.specs.Locality.{ChangesNear, AnswersNear, AddsRefusal, AnswersCreation};
 
 /// How far an event reaches: what acts in one stack changes that stack and the ends of the halves
@@ -27,8 +27,8 @@ pub fn law_of_locality()
     ensures dead { (w : AnyWorld) (lane : ℕ) (p : AnyPath) (command : AnyCommand)
         → is_alive w p ≡ false → AddsRefusal w lane p command errno.NoEnt }
     ensures refused { (w : AnyWorld) (lane : ℕ) (p : AnyPath) (command : AnyCommand)
-        (code : AnyErrno) → refusal_at w p command ≡ Some code → AddsRefusal w lane p command code }
+        (code : AnyErrno) → far_refusal_at w p command ≡ Some code → AddsRefusal w lane p command code }
     ensures creation { (w : AnyWorld) (lane : ℕ) (issuer path : AnyPath) (limit : ℕ)
-        → refusal_at w issuer (command.JailCreate path limit) ≡ None
+        → far_refusal_at w issuer (command.JailCreate path limit) ≡ None
         → AnswersCreation w lane issuer path limit }
 {}

@@ -21,6 +21,7 @@ pub mod AddressCommands
 pub mod RouteCommands
 pub mod Scenes
 pub mod Named
+pub mod Macs
 pub mod LinkCommands
 pub mod SocketCommands
 pub mod TableCommands

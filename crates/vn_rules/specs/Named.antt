@@ -12,7 +12,7 @@ ifname_eq ifname.Lo0 ifname.Lo0 = true
 ifname_eq (ifname.Epair m s) (ifname.Epair n t) = (m == n) && side_eq s t
 ifname_eq _ _ = false
 
--- what stands there, but is lo0
+-- whether it stands there and is lo0
 abbrev pub is_lo0 : {N : Type 0} → Option (IfOf N) → Bool
 is_lo0 None = false
 is_lo0 (Some Lo0) = true

@@ -43,7 +43,7 @@ counted_by f (Some children) = Some (record children { living = f children.livin
 abbrev pub recount : (ℕ → ℕ) → Live → Live
 recount f live = record live { children = counted_by f live.children }
 
--- in the ancestors of a path other than host
+-- in each ancestor of the path, but not in host
 abbrev pub recount_above : Path → (ℕ → ℕ) → Path → Stack → Stack
 recount_above p f q s = if list_any (path_eq q) (above p) then live_map (recount f) s else s
 

@@ -14,6 +14,7 @@ use Rattle.vn_rules.specs.declared.outcome.Outcome.TheVariants.{Value}
 use Rattle.vn_rules.specs.declared.parts.PartsOf.{PartsOf}
 use Rattle.vn_rules.specs.Interfaces.{with_interface, without_interface}
 use Rattle.vn_rules.specs.LinkCommands.{half_alone}
+use Rattle.vn_rules.specs.Macs.{first_mac}
 use Rattle.vn_rules.specs.Named.{is_lo0}
 use Rattle.vn_rules.specs.Purge.{purged}
 use Rattle.vn_rules.specs.Resolution.{is_no_station}
@@ -26,17 +27,6 @@ use Rattle.vn_cells.specs.world.World.{pair_at, end_of, with_end, on_parts, edit
 use Rattle.vn_cells.specs.commands.Taken.{standing, is_unit_free, lowest_free, units}
 
 -- ---- a pair
-
--- the last octet of a half's first hardware address
-abbrev pub side_octet : Side → ℕ
-side_octet A = 10
-side_octet B = 11
-
--- 02:00, the unit in three octets, and :0a or :0b
-abbrev pub first_mac : ℕ → Side → Mac
-first_mac unit side = record {
-  0 = 2 ∷ 0 ∷ unit / 65536 % 256 ∷ unit / 256 % 256 ∷ unit % 256 ∷ side_octet side ∷ [];
-}
 
 -- a half as it is made: at home, down, and nothing waits
 abbrev pub new_end : Path → ℕ → Side → End

@@ -42,8 +42,8 @@ commanded lane issuer command w =
     else entered w.clock lane issuer command (refused errno.NoEnt w)
 
 -- why a command that reaches beyond its stack is refused, if it is
-abbrev pub refusal_at : World → Path → Command → Option Errno
-refusal_at w issuer command =
+abbrev pub far_refusal_at : World → Path → Command → Option Errno
+far_refusal_at w issuer command =
     let rule = far_rule (common_of w) issuer (reach issuer command) w in
     if is_alive w issuer then first_refusal rule.refusals else Some errno.NoEnt
 

@@ -1,5 +1,5 @@
 -- The versions of listings: one is retired where a table has other lines than before or its stack is destroyed, and is
--- kept for each reader that was open then, while that stays open.
+-- kept while some reader that was open then stays open.
 use Rattle.std.specs.Prelude.{ℕ, ◌+◌, Bool, true, false, ◌&&◌, not, List, [], ◌∷◌, map, length, filter, Option, Some, None}
 use Rattle.std.specs.List.{flat_map}
 use Rattle.std.specs.Option.{is_some}
