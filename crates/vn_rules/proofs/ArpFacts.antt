@@ -77,14 +77,11 @@ module _ {N : Type 0} (same : N → N → Bool) (decides : (g h : N) → Decides
     -- where its timer was taken out there is none of the place
     pub no_timer : is_sound_but same half ip p ≡ true → count_by at_place p.timers.standing ≡ 0
     unfolding times_arp_but
-    no_timer sound = by (entry_of same half ip p.arp) refl
+    no_timer sound = by (facts_from_sound same (times_arp_but same half ip) p sound) (entry_of same half ip p.arp) refl
       where
-        f : SoundFacts same (times_arp_but same half ip) p
-        f = facts_from_sound same (times_arp_but same half ip) p sound
-
-        by : (o : Option (ArpEntryOf N)) → entry_of same half ip p.arp ≡ o → count_by at_place p.timers.standing ≡ 0
-        by None is = no_timer-absent (absent-none (is_entry_at same half ip) p.arp is) f.owned
-        by (Some e) is =
+        by : SoundFacts same (times_arp_but same half ip) p → (o : Option (ArpEntryOf N)) → entry_of same half ip p.arp ≡ o → count_by at_place p.timers.standing ≡ 0
+        by f None is = no_timer-absent (absent-none (is_entry_at same half ip) p.arp is) f.owned
+        by f (Some e) is =
             let there = find_passes (is_entry_at same half ip) p.arp e is in
             let none : count_by (is_timer_at same e) p.timers.standing ≡ 0 = eqb-true _ _ (sym (ap (λ b. count_by (is_timer_at same e) p.timers.standing == cond b 0 (timers_wanted same e.state)) there) ∙ find_all (is_entry_at same half ip) has_but p.arp e is f.arp_timed) in
             sym (λ i. count_by (λ t. timers-there e there t i) p.timers.standing) ∙ none

@@ -92,9 +92,6 @@ module _ {N : Type 0} (same : N → N → Bool) (decides : (g h : N) → Decides
     unfolding after_hold are_arp_entries
     after_hold-sound now octets unknown up = by (entry_of same half ip p.arp) refl unknown up
       where
-        f : SoundFacts same (times_arp same) p
-        f = facts_from_sound same (times_arp same) p sound
-
         holds_right : (e : ArpEntryOf N) → e.state ≡ Incomplete → is_right_in Incomplete e ≡ true → is_right_in (holding octets e).state (holding octets e) ≡ true
         holds_right e state right =
             let two = and_parts (is_none e.mac && nat_lt 0 e.requests && nat_le e.requests REQUESTS_MAX) _ right in
@@ -117,6 +114,7 @@ module _ {N : Type 0} (same : N → N → Bool) (decides : (g h : N) → Decides
             (but-absent p (absent-none (is_entry_at same half ip) p.arp is) sound) (ap (λ (e : ArpEntryOf N). timers_wanted same e.state) basis) (now + request_time)
         by (Some e) is unknown up =
             let basis : from_base p ≡ e = ap (λ o. unwrap_or o (new_entry half ip)) is in
+            let f = facts_from_sound same (times_arp same) p sound in
             let right : is_right_in e.state e ≡ true = find_all (is_entry_at same half ip) (λ (e : ArpEntryOf N). is_right_in e.state e) p.arp e is f.arp in
             let state : e.state ≡ Incomplete = incomplete e e.state refl right unknown up in
             ap (λ o. is_sound_parts same (after o)) is

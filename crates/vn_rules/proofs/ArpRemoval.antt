@@ -50,9 +50,6 @@ module _ {N : Type 0} (gone : N → Ip4 → Bool) (p : PartsOf N) where
 
 module _ {N : Type 0} (same : N → N → Bool) (decides : (a b : N) → Decides (same a b) (a ≡ b)) (gone : N → Ip4 → Bool) (p : PartsOf N)
     (times : PartsOf N → Bool) (s : SoundFacts same times p) (counted : list_all (λ a. gone a.half a.ip || (count_by (is_timer_at same a) p.timers.standing == timers_wanted same a.state)) p.arp ≡ true) where
-  abbrev timers_of : List (Timed N)
-  timers_of = p.timers.standing
-
   -- a timer is gone with its entry
   at_one : (e : ArpEntryOf N) (at : ℕ × ℕ) (half : N) (ip : Ip4) → is_timer_at same e (at, Arp half ip) ≡ true → gone half ip ≡ gone e.half e.ip
   at_one e at half ip f =
@@ -63,7 +60,7 @@ module _ {N : Type 0} (same : N → N → Bool) (decides : (a b : N) → Decides
 
   owned : owns_timers same (without_entries gone p) ≡ true
   unfolding owns_timers without_entries
-  owned = all_filtered (has_owner same p) (has_owner same (without_entries gone p)) (timer_stays gone p) timers_of by s.owned
+  owned = all_filtered (has_owner same p) (has_owner same (without_entries gone p)) (timer_stays gone p) p.timers.standing by s.owned
     where
       by : (e : Timed N) → timer_stays gone p e ≡ true → has_owner same p e ≡ true → has_owner same (without_entries gone p) e ≡ true
       by (at, Ping id arm) kept owner = owner
@@ -74,27 +71,27 @@ module _ {N : Type 0} (same : N → N → Bool) (decides : (a b : N) → Decides
 
   pings_timed : times_pings (without_entries gone p) ≡ true
   unfolding times_pings without_entries
-  pings_timed = all_weaker (λ g. count_by (is_timer_for g) timers_of == 1) (λ g. count_by (is_timer_for g) (filter (timer_stays gone p) timers_of) == 1) by p.pings.awaited s.pings_timed
+  pings_timed = all_weaker (λ g. count_by (is_timer_for g) p.timers.standing == 1) (λ g. count_by (is_timer_for g) (filter (timer_stays gone p) p.timers.standing) == 1) by p.pings.awaited s.pings_timed
     where
       untimed : (g : PingOf N) (e : Timed N) → timer_stays gone p e ≡ false → is_timer_for g e ≡ false
       untimed g (at, Arp half ip) goes = refl
       untimed g (at, Ping id arm) goes = absurd (false≢true (sym goes))
 
-      by : (g : PingOf N) → (count_by (is_timer_for g) timers_of == 1) ≡ true → (count_by (is_timer_for g) (filter (timer_stays gone p) timers_of) == 1) ≡ true
-      by g alone = ap (λ n. n == 1) (count_filter (is_timer_for g) (timer_stays gone p) timers_of (λ e _. untimed g e)) ∙ alone
+      by : (g : PingOf N) → (count_by (is_timer_for g) p.timers.standing == 1) ≡ true → (count_by (is_timer_for g) (filter (timer_stays gone p) p.timers.standing) == 1) ≡ true
+      by g alone = ap (λ n. n == 1) (count_filter (is_timer_for g) (timer_stays gone p) p.timers.standing (λ e _. untimed g e)) ∙ alone
 
   arp_timed : times_arp same (without_entries gone p) ≡ true
   unfolding times_arp without_entries
-  arp_timed = all_filtered (λ a. gone a.half a.ip || (count_by (is_timer_at same a) timers_of == timers_wanted same a.state)) (λ a. count_by (is_timer_at same a) (filter (timer_stays gone p) timers_of) == timers_wanted same a.state) (stays gone p) p.arp by counted
+  arp_timed = all_filtered (λ a. gone a.half a.ip || (count_by (is_timer_at same a) p.timers.standing == timers_wanted same a.state)) (λ a. count_by (is_timer_at same a) (filter (timer_stays gone p) p.timers.standing) == timers_wanted same a.state) (stays gone p) p.arp by counted
     where
       untimed : (a : ArpEntryOf N) → stays gone p a ≡ true → (e : Timed N) → timer_stays gone p e ≡ false → is_timer_at same a e ≡ false
       untimed a kept (at, Ping id arm) goes = refl
       untimed a kept (at, Arp half ip) goes = false_from_ne_true _ (λ f. both_ways (gone a.half a.ip) (not-true _ kept) (sym (at_one a at half ip f) ∙ not-false _ goes))
 
-      by : (a : ArpEntryOf N) → stays gone p a ≡ true → (gone a.half a.ip || (count_by (is_timer_at same a) timers_of == timers_wanted same a.state)) ≡ true
-          → (count_by (is_timer_at same a) (filter (timer_stays gone p) timers_of) == timers_wanted same a.state) ≡ true
-      by a kept right = ap (λ n. n == timers_wanted same a.state) (count_filter (is_timer_at same a) (timer_stays gone p) timers_of (λ e _. untimed a kept e))
-          ∙ sym (ap (λ b. b || (count_by (is_timer_at same a) timers_of == timers_wanted same a.state)) (not-true _ kept)) ∙ right
+      by : (a : ArpEntryOf N) → stays gone p a ≡ true → (gone a.half a.ip || (count_by (is_timer_at same a) p.timers.standing == timers_wanted same a.state)) ≡ true
+          → (count_by (is_timer_at same a) (filter (timer_stays gone p) p.timers.standing) == timers_wanted same a.state) ≡ true
+      by a kept right = ap (λ n. n == timers_wanted same a.state) (count_filter (is_timer_at same a) (timer_stays gone p) p.timers.standing (λ e _. untimed a kept e))
+          ∙ sym (ap (λ b. b || (count_by (is_timer_at same a) p.timers.standing == timers_wanted same a.state)) (not-true _ kept)) ∙ right
 
   abbrev own : IfOf N → Bool
   own = is_among same p.interfaces
@@ -119,14 +116,14 @@ module _ {N : Type 0} (same : N → N → Bool) (decides : (a b : N) → Decides
     arp_timed = arp_timed;
     arp_covered = all_filter (stays gone p) _ p.arp s.arp_covered;
     founded = s.founded;
-    arms_given = all_filter (timer_stays gone p) _ timers_of s.arms_given;
+    arms_given = all_filter (timer_stays gone p) _ p.timers.standing s.arms_given;
     arms_apart = s.arms_apart;
     variables = s.variables;
     addresses = s.addresses;
     routes = s.routes;
     arp = all_filter (stays gone p) _ p.arp s.arp;
     sockets = s.sockets;
-    timers = let t = and_parts (are_rising turn_cmp (keys_of timers_of)) _ s.timers in and_from _ _ (rising_kept turn_cmp (timer_stays gone p) timers_of t.0) (distinct_filter (timer_stays gone p) _ timers_of t.1);
+    timers = let t = and_parts (are_rising turn_cmp (keys_of p.timers.standing)) _ s.timers in and_from _ _ (rising_kept turn_cmp (timer_stays gone p) p.timers.standing t.0) (distinct_filter (timer_stays gone p) _ p.timers.standing t.1);
     pings = s.pings;
     loopback = s.loopback;
     ident = s.ident;

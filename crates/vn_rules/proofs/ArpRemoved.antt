@@ -20,7 +20,7 @@ use Rattle.vn_rules.specs.Orders.{is_right_in, are_arp_entries}
 use Rattle.vn_rules.specs.Resolution.{request_time, down_time, Ask, GivesUp, turn_in, turn_of, asked, given_up, turned, after_turn, after_static, after_arp_set, after_arp_delete}
 use Rattle.vn_rules.specs.Routes.{covers, gateway_half}
 use Rattle.vn_rules.specs.Soundness.{timers_wanted, times_arp, times_arp_but, covers_arp, is_sound_parts, is_sound_but}
-use Rattle.vn_rules.proofs.ArpFacts.{has_but, own-apart}
+use Rattle.vn_rules.proofs.ArpFacts.{has_but, has_own, own-apart}
 use Rattle.vn_rules.proofs.ArpKept.{absent-but, after_static-sound, from_base, timed_entry-sound}
 use Rattle.vn_rules.proofs.ArpRemoval.{without_entries-facts, without_entries-sound}
 use Rattle.vn_rules.proofs.ArpPlaces.{place_from_test, base-place}
@@ -29,9 +29,6 @@ use Rattle.vn_rules.proofs.RouteAdded.{gateway-own, gateway-covered}
 use Rattle.vn_rules.proofs.SoundFacts.{SoundFacts, facts_from_sound, sound_from_facts}
 
 module _ {N : Type 0} (same : N → N → Bool) (decides : (g h : N) → Decides (same g h) (g ≡ h)) (p : PartsOf N) where
-  abbrev own_timers : ArpEntryOf N → Bool
-  own_timers e = count_by (is_timer_at same e) p.timers.standing == timers_wanted same e.state
-
   pub after_arp_delete-sound : (ip : Ip4) → is_sound_parts same p ≡ true → is_sound_parts same (after_arp_delete ip p) ≡ true
   unfolding after_arp_delete
   after_arp_delete-sound ip sound = without_entries-sound same decides (λ half own. own.0 == ip.0) p sound
@@ -48,16 +45,14 @@ module _ {N : Type 0} (same : N → N → Bool) (decides : (g h : N) → Decides
   -- ---- the turn of an entry's timer
 
   module _ (half : N) (ip : Ip4) (sound : is_sound_but same half ip p ≡ true) where
-    f : SoundFacts same (times_arp_but same half ip) p
-    f = facts_from_sound same (times_arp_but same half ip) p sound
-
     removed-sound : is_sound_parts same (without_entries (is_place same half ip) p) ≡ true
     unfolding times_arp_but
     removed-sound =
+        let f = facts_from_sound same (times_arp_but same half ip) p sound in
         sound_from_facts same (times_arp same) (without_entries (is_place same half ip) p)
         (without_entries-facts same decides (is_place same half ip) p (times_arp_but same half ip) f (all_weaker (has_but same decides half ip p) _ (λ e is. by (is_entry_at same half ip e) e refl is) p.arp f.arp_timed))
       where
-        by : (b : Bool) (e : ArpEntryOf N) → is_entry_at same half ip e ≡ b → has_but same decides half ip p e ≡ true → (is_entry_at same half ip e || own_timers e) ≡ true
+        by : (b : Bool) (e : ArpEntryOf N) → is_entry_at same half ip e ≡ b → has_but same decides half ip p e ≡ true → (is_entry_at same half ip e || has_own same decides half ip p e) ≡ true
         by true e is holds = or_left _ _ is
         by false e is holds = or_right (is_entry_at same half ip e) _ (sym (own-apart same decides half ip p e is) ∙ holds)
 
@@ -96,6 +91,7 @@ module _ {N : Type 0} (same : N → N → Bool) (decides : (g h : N) → Decides
         by : (o : Option (ArpEntryOf N)) → entry_of same half ip p.arp ≡ o → is_sound_parts same (option_map_or (λ (e : ArpEntryOf N). turned same now half ip p (turn_of e)) o p) ≡ true
         by None is = absent-but same decides half ip p (absent-none (is_entry_at same half ip) p.arp is) sound
         by (Some e) is =
+            let f = facts_from_sound same (times_arp_but same half ip) p sound in
             let here = place_from_test same decides half ip e.half e.ip (find_passes (is_entry_at same half ip) p.arp e is) in
             let names = sym (list_all-map (is_among same p.interfaces) (λ (e : ArpEntryOf N). Half e.half) p.arp) ∙ f.arp_names in
             turned-sound now e is

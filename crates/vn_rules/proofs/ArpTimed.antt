@@ -1,5 +1,5 @@
 -- An entry that is put in its place with its timer, or without one, leaves a stack sound.
-use Rattle.std.proofs.Common.{◌≡◌, ℕ, ◌+◌, Bool, true, false, cond, not, ◌==◌, List, [], ◌∷◌, Some, refl, sym, ap, ap₂, ◌∙◌, arith}
+use Rattle.std.proofs.Common.{◌≡◌, ℕ, add-zero, ◌+◌, Bool, true, false, cond, not, ◌==◌, List, [], ◌∷◌, Some, refl, sym, ap, ap₂, ◌∙◌, arith}
 use Rattle.std.specs.Bool.{Decides}
 use Rattle.std.specs.Prelude.{nat_lt}
 use Rattle.std.specs.List.{list_any, list_all, filter, count_by}
@@ -32,9 +32,6 @@ pub all_apart : {A : Type 0} (p a q : A → Bool) → ((x : A) → p x ≡ true 
 all_apart p a q out [] none all = refl
 all_apart p a q out (x ∷ xs) none all =
     let parts = and_parts (p x) _ all in let two = or_parts (a x) _ none in and_from _ _ (out x parts.0 two.0) (all_apart p a q out xs two.1 parts.1)
-
-add_zero : (n : ℕ) → n + 0 ≡ n
-add_zero n = omega arith
 
 module _ {N : Type 0} (same : N → N → Bool) (decides : (g h : N) → Decides (same g h) (g ≡ h)) (half : N) (ip : Ip4) (p : PartsOf N) where
   -- ---- the timer of the place is taken out
@@ -96,7 +93,7 @@ module _ {N : Type 0} (same : N → N → Bool) (decides : (g h : N) → Decides
         put_sound same decides half ip p t (after_arm deadline (Arp half ip) p.timers) (times_arp_but same half ip) f there right among covered
         (all_inserted _ _ _ more (has_owner same after) (all_weaker (has_owner same p) (has_owner same after) (owner-put same decides half ip p t ts there) p.timers.standing f.owned)
         (any_put_here same decides half ip t (λ e. is_timer_at same e new) (timers-there same decides half ip t there new ∙ new-there same decides half ip (deadline, p.timers.armed)) p.arp))
-        (all_weaker (λ (ping : PingOf N). count_by (is_timer_for ping) p.timers.standing == 1) _ (λ ping is. ap (λ n. n == 1) (count_inserted _ _ _ more (is_timer_for ping) ∙ add_zero _) ∙ is) p.pings.awaited f.pings_timed)
+        (all_weaker (λ (ping : PingOf N). count_by (is_timer_for ping) p.timers.standing == 1) _ (λ ping is. ap (λ n. n == 1) (count_inserted _ _ _ more (is_timer_for ping) ∙ add-zero _) ∙ is) p.pings.awaited f.pings_timed)
         (all_put same decides half ip t (has_but same decides half ip p) _ others here p.arp f.arp_timed)
         (all_inserted _ _ _ more (λ (e : Timed N). nat_lt e.0.1 (p.timers.armed + 1)) (all_weaker (λ (e : Timed N). nat_lt e.0.1 p.timers.armed) _ (λ e is. let less = ltb-true _ _ is in lt-ltb _ _ (omega arith)) p.timers.standing f.arms_given) (lt-ltb p.timers.armed (p.timers.armed + 1) (omega arith)))
         (let two = and_parts (are_rising turn_cmp (keys_of p.timers.standing)) _ f.timers in
@@ -123,7 +120,7 @@ module _ {N : Type 0} (same : N → N → Bool) (decides : (g h : N) → Decides
         others : (e : ArpEntryOf N) → has_but same decides half ip p e ≡ true → is_entry_at same half ip e ≡ false
             → (count_by (is_timer_at same e) (insert_entry turn_cmp p.timers.standing (deadline, p.timers.armed) (Arp half ip)) == timers_wanted same e.state) ≡ true
         others e holds apart =
-            ap (λ n. n == timers_wanted same e.state) (count e ∙ ap (λ b. count_by (is_timer_at same e) p.timers.standing + cond b 1 0) (new-apart same decides half ip e apart (deadline, p.timers.armed)) ∙ add_zero _)
+            ap (λ n. n == timers_wanted same e.state) (count e ∙ ap (λ b. count_by (is_timer_at same e) p.timers.standing + cond b 1 0) (new-apart same decides half ip e apart (deadline, p.timers.armed)) ∙ add-zero _)
             ∙ sym (own-apart same decides half ip p e apart)
             ∙ holds
 
@@ -153,16 +150,14 @@ module _ {N : Type 0} (same : N → N → Bool) (decides : (g h : N) → Decides
       → is_among same p.interfaces (Half half) ≡ true → covers same (Half half) ip p.routes ≡ true → is_sound_parts same (with_put same decides half ip p t p.timers) ≡ true
   unfolding owns_timers times_pings times_arp gave_arms
   kept_put-sound sound e t found there state right among covered =
+      let f = facts_from_sound same (times_arp same) p sound in
       put_sound same decides half ip p t p.timers (times_arp same) f there right among covered
       (all_weaker (has_owner same p) _ (owner-put same decides half ip p t p.timers there) p.timers.standing f.owned)
       f.pings_timed
-      (all_put same decides half ip t (has_own same decides half ip p) (has_own same decides half ip p) (λ d holds apart. holds) here p.arp f.arp_timed)
+      (all_put same decides half ip t (has_own same decides half ip p) (has_own same decides half ip p) (λ d holds apart. holds) (here f.arp_timed) p.arp f.arp_timed)
       f.arms_given f.timers
     where
-      f : SoundFacts same (times_arp same) p
-      f = facts_from_sound same (times_arp same) p sound
-
-      here : has_own same decides half ip p t ≡ true
-      here =
+      here : list_all (has_own same decides half ip p) p.arp ≡ true → has_own same decides half ip p t ≡ true
+      here timed =
           (λ i. count_by (λ u. (timers-there same decides half ip t there u ∙ sym (timers-there same decides half ip e (find_passes (is_entry_at same half ip) p.arp e found) u)) i) p.timers.standing == timers_wanted same (state i))
-          ∙ find_all (is_entry_at same half ip) (has_own same decides half ip p) p.arp e found f.arp_timed
+          ∙ find_all (is_entry_at same half ip) (has_own same decides half ip p) p.arp e found timed

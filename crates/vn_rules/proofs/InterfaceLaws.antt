@@ -85,14 +85,11 @@ module _ {N : Type 0} (same : N → N → Bool) (p : PartsOf N) where
     without_interface-sound on unnamed sound = with_ifs-sound same p (without_interface same on p.interfaces)
         (all_in (is_among same p.interfaces) (is_among same (without_interface same on p.interfaces)) (named_ifs p) by (own_named sound)) sound
       where
-        if_decides : (a b : IfOf N) → Decides (if_same same a b) (a ≡ b)
-        if_decides = if_same-Decides same decides
-
         apart : (i : IfOf N) → IsIn i (named_ifs p) → (own : IfOf N) → not (if_same same own on) ≡ false → if_same same i own ≡ false
         apart i is own goes = false_from_ne_true _ (λ e.
-            let there : own ≡ on = (if_decides own on).0 (not-false _ goes) in
-            let here : i ≡ own = (if_decides i own).0 e in
-            both_ways (is_among same (named_ifs p) on) unnamed (is (if_same same on) ((if_decides on i).1 (sym (here ∙ there)))))
+            let there : own ≡ on = (if_same-Decides same decides own on).0 (not-false _ goes) in
+            let here : i ≡ own = (if_same-Decides same decides i own).0 e in
+            both_ways (is_among same (named_ifs p) on) unnamed (is (if_same same on) ((if_same-Decides same decides on i).1 (sym (here ∙ there)))))
 
         by : (i : IfOf N) → IsIn i (named_ifs p) → is_among same p.interfaces i ≡ true → is_among same (without_interface same on p.interfaces) i ≡ true
         by i is own = any_filter (if_same same i) (λ own. not (if_same same own on)) p.interfaces (apart i is) ∙ own

@@ -5,7 +5,7 @@ use Rattle.std.specs.Ordering.{is_lt}
 use Rattle.std.specs.declared.cmp.Ordering.{Ordering}
 use Rattle.std.specs.Map.{keys_of}
 use Rattle.std.proofs.lemmas.List.Sums.{length-filter}
-use Rattle.std.proofs.lemmas.Bool.{and_parts, and_from, or_parts, or_from, false≢true}
+use Rattle.std.proofs.lemmas.Bool.{and_parts, and_from, or_parts, or_from, or_left, or_right, false≢true}
 use Rattle.vn_rules.specs.Orders.{are_rising, are_distinct}
 
 -- x is in the list: each test that it passes is passed there
@@ -26,14 +26,12 @@ module _ {X : Type 0} where
   -- what the kept elements pass, where each that is kept and passed the first test passes the second
   pub all_filtered_in : (t u k : X → Bool) (xs : List X) → ((x : X) → IsIn x xs → k x ≡ true → t x ≡ true → u x ≡ true) → list_all t xs ≡ true → list_all u (filter k xs) ≡ true
   all_filtered_in t u k [] h all = refl
-  all_filtered_in t u k (x ∷ xs) h all = by (k x) refl (all_filtered_in t u k xs (λ y is. h y (in_rest x y xs is)) parts.1)
+  all_filtered_in t u k (x ∷ xs) h all =
+      let parts = and_parts (t x) (list_all t xs) all in by (k x) refl parts.0 (all_filtered_in t u k xs (λ y is. h y (in_rest x y xs is)) parts.1)
     where
-      parts : (t x ≡ true) × (list_all t xs ≡ true)
-      parts = and_parts (t x) (list_all t xs) all
-
-      by : (b : Bool) → k x ≡ b → list_all u (filter k xs) ≡ true → list_all u (cond b (x ∷ filter k xs) (filter k xs)) ≡ true
-      by true kept more = and_from (u x) _ (h x (in_first x xs) kept parts.0) more
-      by false left more = more
+      by : (b : Bool) → k x ≡ b → t x ≡ true → list_all u (filter k xs) ≡ true → list_all u (cond b (x ∷ filter k xs) (filter k xs)) ≡ true
+      by true kept here more = and_from (u x) _ (h x (in_first x xs) kept here) more
+      by false left here more = more
 
   pub all_filtered : (t u k : X → Bool) (xs : List X) → ((x : X) → k x ≡ true → t x ≡ true → u x ≡ true) → list_all t xs ≡ true → list_all u (filter k xs) ≡ true
   all_filtered t u k xs h all = all_filtered_in t u k xs (λ x is. h x) all
@@ -81,28 +79,18 @@ module _ {X : Type 0} where
   any_weaker t u [] h any = any
   any_weaker t u (x ∷ xs) h any = by (t x) refl any (any_weaker t u xs h)
     where
-      here : (b : Bool) → b ≡ true → b || list_any u xs ≡ true
-      here b e = rw e refl
-
-      there : (b c : Bool) → c ≡ true → b || c ≡ true
-      there true c e = refl
-      there false c e = e
-
       by : (b : Bool) → t x ≡ b → b || list_any t xs ≡ true → (list_any t xs ≡ true → list_any u xs ≡ true) → u x || list_any u xs ≡ true
-      by true is any more = here (u x) (h x is)
-      by false is any more = there (u x) (list_any u xs) (more any)
+      by true is any more = or_left (u x) (list_any u xs) (h x is)
+      by false is any more = or_right (u x) (list_any u xs) (more any)
 
   -- some element passes one test and each the other: what follows of such an element holds
   pub from_any : (t u : X → Bool) (b : Bool) (xs : List X) → ((x : X) → t x ≡ true → u x ≡ true → b ≡ true) → list_any t xs ≡ true → list_all u xs ≡ true → b ≡ true
   from_any t u b [] h any all = absurd (false≢true any)
-  from_any t u b (x ∷ xs) h any all = by (t x) refl any (λ a. from_any t u b xs h a parts.1)
+  from_any t u b (x ∷ xs) h any all = let parts = and_parts (u x) (list_all u xs) all in by (t x) refl any parts.0 (λ a. from_any t u b xs h a parts.1)
     where
-      parts : (u x ≡ true) × (list_all u xs ≡ true)
-      parts = and_parts (u x) (list_all u xs) all
-
-      by : (c : Bool) → t x ≡ c → c || list_any t xs ≡ true → (list_any t xs ≡ true → b ≡ true) → b ≡ true
-      by true is any more = h x is parts.0
-      by false is any more = more any
+      by : (c : Bool) → t x ≡ c → c || list_any t xs ≡ true → u x ≡ true → (list_any t xs ≡ true → b ≡ true) → b ≡ true
+      by true is any here more = h x is here
+      by false is any here more = more any
 
   -- nothing passes where each fails
   pub none_from_all : (t u : X → Bool) (xs : List X) → ((x : X) → u x ≡ true → t x ≡ false) → list_all u xs ≡ true → list_any t xs ≡ false

@@ -9,6 +9,7 @@ use Rattle.std.proofs.lemmas.List.Sums.{sum-map, sum_by-cons}
 use Rattle.std.proofs.lemmas.Simd.{map-map}
 use Rattle.vn_types.proofs.ListMaps.{any_map_same}
 use Rattle.vn_rules.specs.Orders.{are_distinct}
+use Rattle.vn_rules.proofs.Kept.{all_filtered, all_from_none, none_from_all}
 
 -- ---- where the renaming of the elements keeps the test
 
@@ -85,20 +86,10 @@ all_push p y xs all here = list_all-append p xs (y ∷ []) ∙ and_from _ _ all 
 
 module _ {A : Type 0} (keep : A → Bool) where
   pub all_filter : (p : A → Bool) (xs : List A) → list_all p xs ≡ true → list_all p (filter keep xs) ≡ true
-  all_filter p [] all = refl
-  all_filter p (x ∷ xs) all = let parts = and_parts (p x) _ all in by (keep x) parts.0 (all_filter p xs parts.1)
-    where
-      by : (b : Bool) → p x ≡ true → list_all p (filter keep xs) ≡ true → list_all p (cond b (x ∷ filter keep xs) (filter keep xs)) ≡ true
-      by true here rest = and_from (p x) _ here rest
-      by false here rest = rest
+  all_filter p xs all = all_filtered p p keep xs (λ x kept is. is) all
 
   pub none_filter : (p : A → Bool) (xs : List A) → list_any p xs ≡ false → list_any p (filter keep xs) ≡ false
-  none_filter p [] none = refl
-  none_filter p (x ∷ xs) none = let parts = or_parts (p x) _ none in by (keep x) parts.0 (none_filter p xs parts.1)
-    where
-      by : (b : Bool) → p x ≡ false → list_any p (filter keep xs) ≡ false → list_any p (cond b (x ∷ filter keep xs) (filter keep xs)) ≡ false
-      by true here rest = or_from (p x) _ here rest
-      by false here rest = rest
+  none_filter p xs none = none_from_all p (λ x. not (p x)) (filter keep xs) (λ x. not-true (p x)) (all_filter (λ x. not (p x)) xs (all_from_none p xs none))
 
   pub distinct_filter : (same : A → A → Bool) (xs : List A) → are_distinct same xs ≡ true → are_distinct same (filter keep xs) ≡ true
   distinct_filter same [] apart = refl

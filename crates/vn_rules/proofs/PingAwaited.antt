@@ -1,5 +1,5 @@
 -- A ping is awaited with a timer of its own: the parts stay sound.
-use Rattle.std.proofs.Common.{◌≡◌, ℕ, ◌+◌, ◌<◌, ◌%◌, ◌^◌, Bool, true, false, cond, ◌&&◌, ◌==◌, nat_lt, [], ◌∷◌, refl, sym, ap, ◌∙◌, arith}
+use Rattle.std.proofs.Common.{◌≡◌, ℕ, add-zero, ◌+◌, ◌<◌, ◌%◌, ◌^◌, Bool, true, false, cond, ◌&&◌, ◌==◌, nat_lt, [], ◌∷◌, refl, sym, ap, ◌∙◌, arith}
 use Rattle.std.specs.List.{list_all, count_by}
 use Rattle.std.specs.Map.{keys_of}
 use Rattle.std.proofs.lemmas.Bool.{and_parts, and_from, and_left, or_left, or_right, false≢true, eqb-true, eq-eqb, ltb-true, lt-ltb}
@@ -85,16 +85,13 @@ module _ {N : Type 0} (same : N → N → Bool) (now : ℕ) (src dst : Ip4) (out
         (all_both (λ g. count_by (is_timer_for g) p.timers.standing == 1) (λ (g : PingOf N). nat_lt g.arm p.timers.armed) p.pings.awaited s.pings_timed arms_below))
         (ap (λ n. n == 1) (counted (is_timer_for ping) true mine ∙ ap (λ n. n + 1) (zero_from_all (λ (e : Timed N). nat_lt e.0.1 p.timers.armed) (is_timer_for ping) other p.timers.standing s.arms_given)))
       where
-        plus_zero : (n : ℕ) → n + 0 ≡ n
-        plus_zero n = omega arith
-
         apart : (g : PingOf N) → nat_lt g.arm p.timers.armed ≡ true → is_timer_for g timer ≡ false
         apart g less = and_left _ _ (and_left _ _ (below_turned g.arm p.timers.armed less))
 
         old : (g : PingOf N) → ((count_by (is_timer_for g) p.timers.standing == 1) && nat_lt g.arm p.timers.armed) ≡ true → (count_by (is_timer_for g) more.timers.standing == 1) ≡ true
         old g is =
             let parts = and_parts (count_by (is_timer_for g) p.timers.standing == 1) (nat_lt g.arm p.timers.armed) is in
-            ap (λ n. n == 1) (counted (is_timer_for g) false (apart g parts.1) ∙ plus_zero (count_by (is_timer_for g) p.timers.standing)) ∙ parts.0
+            ap (λ n. n == 1) (counted (is_timer_for g) false (apart g parts.1) ∙ add-zero (count_by (is_timer_for g) p.timers.standing)) ∙ parts.0
 
         other : (e : Timed N) → nat_lt e.0.1 p.timers.armed ≡ true → is_timer_for ping e ≡ false
         other (at, Arp half ip) less = refl
@@ -103,10 +100,7 @@ module _ {N : Type 0} (same : N → N → Bool) (now : ℕ) (src dst : Ip4) (out
     arp_timed : times_arp same more ≡ true
     unfolding times_arp awaiting
     arp_timed = all_weaker (λ a. count_by (is_timer_at same a) p.timers.standing == timers_wanted same a.state) (λ a. count_by (is_timer_at same a) more.timers.standing == timers_wanted same a.state)
-        (λ a right. ap (λ n. n == timers_wanted same a.state) (counted (is_timer_at same a) false refl ∙ plus_zero (count_by (is_timer_at same a) p.timers.standing)) ∙ right) p.arp s.arp_timed
-      where
-        plus_zero : (n : ℕ) → n + 0 ≡ n
-        plus_zero n = omega arith
+        (λ a right. ap (λ n. n == timers_wanted same a.state) (counted (is_timer_at same a) false refl ∙ add-zero (count_by (is_timer_at same a) p.timers.standing)) ∙ right) p.arp s.arp_timed
 
     arms_given : gave_arms more ≡ true
     unfolding gave_arms awaiting

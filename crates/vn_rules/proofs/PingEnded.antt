@@ -1,7 +1,7 @@
 -- The first awaited ping that passes a test comes to its end: it is the one with its arm number, and its timer is that of the number.
 use Rattle.std.proofs.Common.{◌≡◌, ℕ, Bool, true, false, cond, not, ◌&&◌, ◌||◌, ◌==◌, List, [], ◌∷◌, Some, refl, sym, ap, ◌∙◌}
 use Rattle.std.specs.List.{list_any, filter, find}
-use Rattle.std.proofs.lemmas.Bool.{and_parts, and_from, both_ways, not-true, false_from_ne_true, false≢true, eqb-true, eq-eqb}
+use Rattle.std.proofs.lemmas.Bool.{and_parts, and_from, or_right, both_ways, not-true, false_from_ne_true, false≢true, eqb-true, eq-eqb}
 use Rattle.vn_types.proofs.Options.{none_some, some_same}
 use Rattle.vn_rules.specs.declared.ping.PingOf.{PingOf}
 use Rattle.vn_rules.specs.declared.parts.PartsOf.{PartsOf}
@@ -33,13 +33,9 @@ module _ {N : Type 0} (test : PingOf N → Bool) (g : PingOf N) where
       here : x ≡ g → (x.arm == g.arm) || list_any (is_timed_by g.arm) gs ≡ true
       here same = ap (λ b. b || list_any (is_timed_by g.arm) gs) (eq-eqb x.arm g.arm (ap (λ (y : PingOf N). y.arm) same))
 
-      there : (b c : Bool) → c ≡ true → b || c ≡ true
-      there true c is = refl
-      there false c is = is
-
       by : (b : Bool) → cond b (Some x) (find test gs) ≡ Some g → (find test gs ≡ Some g → list_any (is_timed_by g.arm) gs ≡ true) → (x.arm == g.arm) || list_any (is_timed_by g.arm) gs ≡ true
       by true found more = here (some_same x g found)
-      by false found more = there (x.arm == g.arm) (list_any (is_timed_by g.arm) gs) (more found)
+      by false found more = or_right (x.arm == g.arm) (list_any (is_timed_by g.arm) gs) (more found)
 
   without_first-one : (gs : List (PingOf N)) → are_distinct (λ (a : PingOf N) (b : PingOf N). a.arm == b.arm) gs ≡ true → find test gs ≡ Some g → without_first test gs ≡ filter apart gs
   without_first-one [] distinct found = refl

@@ -42,17 +42,14 @@ module _ {K V : Type 0} (cmp : K → K → Ordering) (k : K) (v : V) (t : K × V
 
   inserted-all : (es : List (K × V)) → Fits es → t (k, v) ≡ true → list_all t es ≡ true → list_all t (insert_entry cmp es k v) ≡ true
   inserted-all [] fits new all = and_from _ _ new refl
-  inserted-all (e ∷ es) fits new all = by (cmp k e.0) fits (λ f. inserted-all es f new parts.1)
+  inserted-all (e ∷ es) fits new all = let parts = and_parts (t e) (list_all t es) all in by (cmp k e.0) fits parts.0 parts.1 (λ f. inserted-all es f new parts.1)
     where
-      parts : (t e ≡ true) × (list_all t es ≡ true)
-      parts = and_parts (t e) (list_all t es) all
-
-      by : (r : Ordering) → ((w : V) → cond (is_eq r) (Some e.1) (lookup (is_at (cmp k)) es) ≡ Some w → w ≡ v)
+      by : (r : Ordering) → ((w : V) → cond (is_eq r) (Some e.1) (lookup (is_at (cmp k)) es) ≡ Some w → w ≡ v) → t e ≡ true → list_all t es ≡ true
           → (Fits es → list_all t (insert_entry cmp es k v) ≡ true)
           → list_all t (match_ordering r ((k, v) ∷ e ∷ es) ((e.0, v) ∷ es) (e ∷ insert_entry cmp es k v)) ≡ true
-      by Less f more = and_from _ _ new all
-      by Equal f more = and_from _ _ (ap (λ w. t (e.0, w)) (sym (f e.1 refl)) ∙ parts.0) parts.1
-      by Greater f more = and_from _ _ parts.0 (more f)
+      by Less f here rest more = and_from _ _ new all
+      by Equal f here rest more = and_from _ _ (ap (λ w. t (e.0, w)) (sym (f e.1 refl)) ∙ here) rest
+      by Greater f here rest more = and_from _ _ here (more f)
 
   inserted-any : (es : List (K × V)) → Fits es → list_any t es ≡ true → list_any t (insert_entry cmp es k v) ≡ true
   inserted-any [] fits any = absurd (false≢true any)
@@ -74,14 +71,11 @@ module _ {K V : Type 0} (cmp : K → K → Ordering) (k : K) (v : V) (t : K × V
 module _ {K V : Type 0} (test : K → Bool) (t : K × V → Bool) where
   removed-all : (es : List (K × V)) → list_all t es ≡ true → list_all t (remove_entry test es) ≡ true
   removed-all [] all = refl
-  removed-all (e ∷ es) all = by (test e.0) (removed-all es parts.1)
+  removed-all (e ∷ es) all = let parts = and_parts (t e) (list_all t es) all in by (test e.0) parts.0 parts.1 (removed-all es parts.1)
     where
-      parts : (t e ≡ true) × (list_all t es ≡ true)
-      parts = and_parts (t e) (list_all t es) all
-
-      by : (b : Bool) → list_all t (remove_entry test es) ≡ true → list_all t (cond b es (e ∷ remove_entry test es)) ≡ true
-      by true more = parts.1
-      by false more = and_from _ _ parts.0 more
+      by : (b : Bool) → t e ≡ true → list_all t es ≡ true → list_all t (remove_entry test es) ≡ true → list_all t (cond b es (e ∷ remove_entry test es)) ≡ true
+      by true here rest more = rest
+      by false here rest more = and_from _ _ here more
 
   -- what a test finds stays, where the entry that goes doesn't pass it
   removed-any : (es : List (K × V)) → ((w : V) → lookup test es ≡ Some w → (k : K) → t (k, w) ≡ false) → list_any t (remove_entry test es) ≡ list_any t es
@@ -99,18 +93,15 @@ module _ {K V : Type 0} (test : K → Bool) (t : K × V → Bool) where
 module _ {N : Type 0} where
   longest-passes : (t : Routed N → Bool) (es : List (Routed N)) → list_all t es ≡ true → IfSome (longest es) (λ e. t e ≡ true)
   longest-passes t [] all = tt
-  longest-passes t (e ∷ es) all = by (longest es) (longest-passes t es parts.1)
+  longest-passes t (e ∷ es) all = let parts = and_parts (t e) (list_all t es) all in by (longest es) parts.0 (longest-passes t es parts.1)
     where
-      parts : (t e ≡ true) × (list_all t es ≡ true)
-      parts = and_parts (t e) (list_all t es) all
+      test : (f : Routed N) → t e ≡ true → t f ≡ true → (b : Bool) → t (cond b f e) ≡ true
+      test f here is true = is
+      test f here is false = here
 
-      test : (f : Routed N) → t f ≡ true → (b : Bool) → t (cond b f e) ≡ true
-      test f is true = is
-      test f is false = parts.0
-
-      by : (o : Option (Routed N)) → IfSome o (λ e. t e ≡ true) → t (longer e o) ≡ true
-      by None is = parts.0
-      by (Some f) is = test f is _
+      by : (o : Option (Routed N)) → t e ≡ true → IfSome o (λ e. t e ≡ true) → t (longer e o) ≡ true
+      by None here is = here
+      by (Some f) here is = test f here is _
 
 module _ {N : Type 0} (same : N → N → Bool) (decides : (a b : N) → Decides (same a b) (a ≡ b)) where
   pub gateway-covered : (via : Ip4) (half : N) (routes : List (Routed N)) → gateway_half via routes ≡ Some half → covers same (Half half) via routes ≡ true

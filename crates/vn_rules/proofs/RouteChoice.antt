@@ -8,7 +8,7 @@ use Rattle.std.specs.Map.{keys_of}
 use Rattle.std.specs.BTreeMap.{is_at}
 use Rattle.std.proofs.lemmas.Bool.{eqb-true, ltb-true, ltb-false, false≢true, false_from_ne_true, and_parts}
 use Rattle.std.proofs.lemmas.Cmp.{eq_by_cmp_equiv}
-use Rattle.std.proofs.lemmas.List.Elements.{All-from_recursion, recursion_from_All, All-nil, All-cons, All-weaker, All-contains, All-filter, All-contains_itself, filter_passes, Contains-append_left, Contains-append_right}
+use Rattle.std.proofs.lemmas.List.Elements.{All-from_recursion, recursion_from_All, All-nil, All-cons, All-weaker, All-contains, All-filter, All-contains_itself, filter_passes, Contains-append_right}
 use Rattle.std.proofs.lemmas.Map.Keys.{IsDistinct-from_sorted}
 use Rattle.std.proofs.lemmas.Map.Lookups.{exact_pairs, exact_unsigned}
 use Rattle.std.proofs.lemmas.Map.Views.{lookup-from_Contains}
@@ -18,7 +18,7 @@ use Rattle.vn_rules.specs.Networks.{network_of, lies_in}
 use Rattle.vn_rules.specs.Orders.{are_rising, are_routes}
 use Rattle.vn_rules.specs.Routes.{Routed, prefix_cmp, route_at, covers_ip, longer, longest, lookup, IsLongest}
 use Rattle.vn_rules.proofs.OrderLaws.{prefix_cmp_total, IsStrictlySortedBy-from_rising}
-use Rattle.vn_rules.proofs.TimerOrder.{unfiltered}
+use Rattle.vn_rules.proofs.TimerOrder.{Contains-first, unfiltered}
 
 -- prefixes that the order finds equal are one
 pub prefix-exact : (a b : Prefix) → is_at (prefix_cmp a) b ≡ true → a ≡ b
@@ -51,23 +51,20 @@ module _ {N : Type 0} where
   longest-is [] = refl
   longest-is (e ∷ es) = by (longest es) (longest-is es)
     where
-      itself : Contains (e ∷ es) e
-      itself = Contains-append_left (e ∷ []) es e (0, omega arith, refl)
-
       by_test : (f : Routed N) → IsLongestOf es f → (b : Bool) → nat_lt e.0.len f.0.len ≡ b → IsLongestOf (e ∷ es) (cond b f e)
       by_test f is true less = record {
         stands = Contains-append_right (e ∷ []) es f is.stands;
         bound = let lt = ltb-true e.0.len f.0.len less in All-cons (λ (g : Routed N). g.0.len ≤ f.0.len) e es (omega arith) is.bound;
       }
       by_test f is false not_less = record {
-        stands = itself;
+        stands = Contains-first e es;
         bound = let le = ltb-false e.0.len f.0.len not_less in All-cons (λ (g : Routed N). g.0.len ≤ e.0.len) e es (omega arith)
             (All-weaker (λ (g : Routed N). g.0.len ≤ f.0.len) (λ (g : Routed N). g.0.len ≤ e.0.len) (λ g more. omega arith) es is.bound);
       }
 
       by : (o : Option (Routed N)) → MatchOption o (es ≡ []) (IsLongestOf es) → IsLongestOf (e ∷ es) (longer e o)
       by None none = record {
-        stands = itself;
+        stands = Contains-first e es;
         bound = All-cons (λ (g : Routed N). g.0.len ≤ e.0.len) e es (omega arith) (rw none (All-nil (λ (g : Routed N). g.0.len ≤ e.0.len)));
       }
       by (Some f) is = by_test f is (nat_lt e.0.len f.0.len) refl
@@ -101,18 +98,16 @@ module _ {N : Type 0} where
         by None none = none
         by (Some e) is = tt
 
+    -- none is longer than another
+    not_longer : (e f : Routed N) → IsLongest ip routes e → IsLongest ip routes f → e.0.len ≤ f.0.len
+    not_longer e f ei fi = All-contains (λ (g : Routed N). covers_ip ip g ≡ true → g.0.len ≤ f.0.len) routes e fi.is_longest ei.stands ei.covers
+
     -- there is one alone
     pub longest-one : are_routes routes ≡ true → (e f : Routed N) → IsLongest ip routes e → IsLongest ip routes f → e ≡ f
     longest-one right e f ei fi = λ i. (same i, target i)
       where
-        le : e.0.len ≤ f.0.len
-        le = All-contains (λ (g : Routed N). covers_ip ip g ≡ true → g.0.len ≤ f.0.len) routes e fi.is_longest ei.stands ei.covers
-
-        ge : f.0.len ≤ e.0.len
-        ge = All-contains (λ (g : Routed N). covers_ip ip g ≡ true → g.0.len ≤ e.0.len) routes f ei.is_longest fi.stands fi.covers
-
         same : e.0 ≡ f.0
-        same = prefix-covers ip e.0 f.0 (omega (arith, le, ge)) ei.covers fi.covers
+        same = prefix-covers ip e.0 f.0 (omega (arith, not_longer e f ei fi, not_longer f e fi ei)) ei.covers fi.covers
 
         two : Some e.1 ≡ Some f.1
         two = sym (route_at-stands routes right e ei.stands) ∙ ap (λ k. route_at k routes) same ∙ route_at-stands routes right f fi.stands

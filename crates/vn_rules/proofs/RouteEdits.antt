@@ -19,28 +19,22 @@ module _ {K V : Type 0} (cmp : K → K → Ordering) (p : K → Bool) where
   -- what holds of each key and of a new one holds after it is put in
   keys_pass-insert : (k : K) (v : V) (es : List (K × V)) → p k ≡ true → list_all p (keys_of es) ≡ true → list_all p (keys_of (insert_entry cmp es k v)) ≡ true
   keys_pass-insert k v [] here all = and_from (p k) true here refl
-  keys_pass-insert k v (e ∷ es) here all = by (cmp k e.0) (keys_pass-insert k v es here parts.1)
+  keys_pass-insert k v (e ∷ es) here all = let parts = and_parts (p e.0) _ all in by (cmp k e.0) parts.0 (keys_pass-insert k v es here parts.1)
     where
-      parts : (p e.0 ≡ true) × (list_all p (keys_of es) ≡ true)
-      parts = and_parts (p e.0) _ all
-
-      by : (r : Ordering) → list_all p (keys_of (insert_entry cmp es k v)) ≡ true → list_all p (keys_of (match_ordering r ((k, v) ∷ e ∷ es) ((e.0, v) ∷ es) (e ∷ insert_entry cmp es k v))) ≡ true
-      by Less more = and_from (p k) _ here all
-      by Equal more = all
-      by Greater more = and_from (p e.0) _ parts.0 more
+      by : (r : Ordering) → p e.0 ≡ true → list_all p (keys_of (insert_entry cmp es k v)) ≡ true → list_all p (keys_of (match_ordering r ((k, v) ∷ e ∷ es) ((e.0, v) ∷ es) (e ∷ insert_entry cmp es k v))) ≡ true
+      by Less first more = and_from (p k) _ here all
+      by Equal first more = all
+      by Greater first more = and_from (p e.0) _ first more
 
 module _ {K V : Type 0} (test p : K → Bool) where
   -- what holds of each key holds where an entry is taken out
   keys_pass-remove : (es : List (K × V)) → list_all p (keys_of es) ≡ true → list_all p (keys_of (remove_entry test es)) ≡ true
   keys_pass-remove [] all = refl
-  keys_pass-remove (e ∷ es) all = by (test e.0) (keys_pass-remove es parts.1)
+  keys_pass-remove (e ∷ es) all = let parts = and_parts (p e.0) _ all in by (test e.0) parts.0 parts.1 (keys_pass-remove es parts.1)
     where
-      parts : (p e.0 ≡ true) × (list_all p (keys_of es) ≡ true)
-      parts = and_parts (p e.0) _ all
-
-      by : (b : Bool) → list_all p (keys_of (remove_entry test es)) ≡ true → list_all p (keys_of (cond b es (e ∷ remove_entry test es))) ≡ true
-      by true more = parts.1
-      by false more = and_from (p e.0) _ parts.0 more
+      by : (b : Bool) → p e.0 ≡ true → list_all p (keys_of es) ≡ true → list_all p (keys_of (remove_entry test es)) ≡ true → list_all p (keys_of (cond b es (e ∷ remove_entry test es))) ≡ true
+      by true first rest more = rest
+      by false first rest more = and_from (p e.0) _ first more
 
 rising-remove : {K V : Type 0} (cmp : K → K → Ordering) (test : K → Bool) (es : List (K × V)) → are_rising cmp (keys_of es) ≡ true → are_rising cmp (keys_of (remove_entry test es)) ≡ true
 rising-remove cmp test [] rising = refl

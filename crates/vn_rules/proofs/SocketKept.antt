@@ -66,15 +66,14 @@ module _ {N : Type 0} (same : N → N → Bool) (p : PartsOf N) where
   -- ---- open, close
 
   pub after_open-sound : (name : List ℕ) → is_sound_parts same p ≡ true → first_refusal (open_refusals name p.sockets) ≡ None → is_sound_parts same (record p { sockets = after_open name p.sockets }) ≡ true
-  after_open-sound name sound none = sound_with_sockets same p (after_open name p.sockets) sound (record {
-    names = distinct_push _ (new_socket name) p.sockets right.names (apart p.sockets (is_new (socket_named name p.sockets) refl none));
-    ports = distinct_push _ (new_socket name) p.sockets right.ports (free p.sockets);
-    each = all_push (is_right same p) (new_socket name) p.sockets right.each refl;
-  })
+  after_open-sound name sound none =
+      let right = right_from_sound same p sound in
+      sound_with_sockets same p (after_open name p.sockets) sound (record {
+        names = distinct_push _ (new_socket name) p.sockets right.names (apart p.sockets (is_new (socket_named name p.sockets) refl none));
+        ports = distinct_push _ (new_socket name) p.sockets right.ports (free p.sockets);
+        each = all_push (is_right same p) (new_socket name) p.sockets right.each refl;
+      })
     where
-      right : AreRight same p p.sockets
-      right = right_from_sound same p sound
-
       is_new : (o : Option (SocketOf N)) → socket_named name p.sockets ≡ o → first_refusal (open_refusals name p.sockets) ≡ None → socket_named name p.sockets ≡ None
       is_new None is none = is
       is_new (Some s) is none = absurd (let none' = rw is at none in cc)

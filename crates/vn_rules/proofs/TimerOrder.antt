@@ -52,6 +52,10 @@ module _ {X : Type 0} (p : X → Bool) (P : X → Type 0) where
       by true passes all more = (λ _. all.0, more all.1)
       by false fails all more = (λ passes. absurd (false≢true (sym fails ∙ passes)), more all)
 
+-- the first of a list is in it
+pub Contains-first : {X : Type 0} (x : X) (xs : List X) → Contains (x ∷ xs) x
+Contains-first x xs = Contains-append_left (x ∷ []) xs x (0, omega arith, refl)
+
 pub none_kept : {X : Type 0} (p : X → Bool) (xs : List X) → AllByRecursion (λ x. p x ≡ false) xs → filter p xs ≡ []
 none_kept p [] none = refl
 none_kept p (x ∷ xs) none = rw none.0 (none_kept p xs none.1)
@@ -68,23 +72,20 @@ module _ {N : Type 0} where
   earliest-is [] = refl
   earliest-is (e ∷ es) = by (earliest es) (earliest-is es)
     where
-      itself : Contains (e ∷ es) e
-      itself = Contains-append_left (e ∷ []) es e (0, omega arith, refl)
-
       by_test : (f : Timed N) → IsEarliest es f → (b : Bool) → is_lt (turn_cmp f.0 e.0) ≡ b → IsEarliest (e ∷ es) (cond b f e)
       by_test f is true less = record {
         stands = Contains-append_right (e ∷ []) es f is.stands;
         is_first = All-cons (λ (g : Timed N). IsNotAfter f.0 g.0) e es (IsNotAfter-from_lt f.0 e.0 less) is.is_first;
       }
       by_test f is false not_less = record {
-        stands = itself;
+        stands = Contains-first e es;
         is_first = All-cons (λ (g : Timed N). IsNotAfter e.0 g.0) e es (IsNotAfter-itself e.0)
             (All-weaker (λ (g : Timed N). IsNotAfter f.0 g.0) (λ (g : Timed N). IsNotAfter e.0 g.0) (λ g. IsNotAfter-trans e.0 f.0 g.0 (IsNotAfter-from_not_lt e.0 f.0 not_less)) es is.is_first);
       }
 
       by : (o : Option (Timed N)) → MatchOption o (es ≡ []) (IsEarliest es) → IsEarliest (e ∷ es) (earlier e o)
       by None none = record {
-        stands = itself;
+        stands = Contains-first e es;
         is_first = All-cons (λ (g : Timed N). IsNotAfter e.0 g.0) e es (IsNotAfter-itself e.0) (rw none (All-nil (λ (g : Timed N). IsNotAfter e.0 g.0)));
       }
       by (Some f) is = by_test f is (is_lt (turn_cmp f.0 e.0)) refl

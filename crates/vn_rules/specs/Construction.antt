@@ -1,12 +1,12 @@
 -- The rows of the constructor table, and what a stack has when they have run (VNET(9)).
-use Rattle.std.specs.Prelude.{ℕ, Bool, true, false, List, [], ◌∷◌, ◌++◌, filter, find, codes, Option}
+use Rattle.std.specs.Prelude.{ℕ, true, List, [], ◌∷◌, ◌++◌, filter, find, codes, Option}
 use Rattle.std.specs.Str.{bytes_eq}
 use Rattle.vn_types.specs.declared.address.Ip4.{Ip4}
-use Rattle.vn_types.specs.declared.interface.IfOf.{IfOf}
-use Rattle.vn_types.specs.declared.interface.IfOf.TheVariants.{Lo0, Half}
+use Rattle.vn_types.specs.declared.interface.IfOf.TheVariants.{Lo0}
 use Rattle.vn_rules.specs.declared.route.TargetOf.TheVariants.{Link}
 use Rattle.vn_rules.specs.declared.parts.PartsOf.{PartsOf}
 use Rattle.vn_rules.specs.declared.parts.Drops.{Drops}
+use Rattle.vn_rules.specs.Addresses.{is_half}
 use Rattle.vn_rules.specs.Arp.{without_entries}
 use Rattle.vn_rules.specs.Pings.{without_pings}
 use Rattle.vn_rules.specs.Variables.{declared_variables}
@@ -61,11 +61,6 @@ module _ {N : Type 0} where
     ident = 0;
     drops = no_drops;
   }
-
-  -- whether the interface is a half
-  abbrev is_half : IfOf N → Bool
-  is_half Lo0 = false
-  is_half (Half h) = true
 
   -- the row at a place
   abbrev row_at : ℕ → ℕ → List ℕ → (PartsOf N → PartsOf N) → DownOf N → RowOf N
