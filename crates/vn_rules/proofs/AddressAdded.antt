@@ -33,7 +33,8 @@ use Rattle.vn_rules.proofs.Named.{NamesPass, own_names, of_addresses}
 use Rattle.vn_rules.proofs.NetworkLaws.{is_network-of}
 use Rattle.vn_rules.proofs.RouteAdded.{insert-sound}
 use Rattle.vn_rules.proofs.RouteLaws.{can_link-renamed, after_link-renamed}
-use Rattle.vn_rules.proofs.SoundFacts.{facts_from_sound, sound_from_facts}
+use Rattle.vn_rules.proofs.SoundEdits.{tabled-sound}
+use Rattle.vn_rules.proofs.SoundFacts.{facts_from_sound}
 
 module _ {N : Type 0} (same : N → N → Bool) (a : AddrOf N) (p : PartsOf N) where
   abbrev more : List (AddrOf N)
@@ -71,37 +72,17 @@ module _ {N : Type 0} (same : N → N → Bool) (a : AddrOf N) (p : PartsOf N) w
           rw (flip x.ip.0 a.ip.0 parts.0) (turned xs parts.1)
 
   after_add-sound : is_among same p.interfaces a.on ≡ true → local a.ip p.addresses ≡ false → nat_lt 0 a.len ≡ true → nat_le a.len 32 ≡ true → is_sound_parts same p ≡ true → is_sound_parts same with_addr ≡ true
-  unfolding binds_locally sends_locally owns_timers times_pings times_arp covers_arp founds_routes gave_arms
+  unfolding binds_locally sends_locally covers_arp founds_routes
   after_add-sound own new some short sound =
       let s = facts_from_sound same (times_arp same) p sound in
       let n = own_names same (times_arp same) p s in
       let named : NamesPass (is_among same p.interfaces) with_addr = record { addresses = all_push (λ (x : AddrOf N). is_among same p.interfaces x.on) a p.addresses n.addresses own; routes = n.routes; arp = n.arp; pings = n.pings; grams = n.grams } in
-      sound_from_facts same (times_arp same) with_addr (record {
-        address_names = of_addresses (is_among same p.interfaces) with_addr named;
-        route_names = s.route_names;
-        arp_names = s.arp_names;
-        ping_names = s.ping_names;
-        gram_names = s.gram_names;
-        bound = all_weaker (λ (k : SocketOf N). is_bound_locally p k.ip) (λ (k : SocketOf N). is_bound_locally with_addr k.ip) (λ k. still_bound k.ip) p.sockets s.bound;
-        sources = all_weaker (λ (g : PingOf N). local g.src p.addresses) (λ (g : PingOf N). local g.src more) (λ g. still_local g.src) p.pings.awaited s.sources;
-        owned = s.owned;
-        pings_timed = s.pings_timed;
-        entries_apart = s.entries_apart;
-        arp_timed = s.arp_timed;
-        arp_covered = s.arp_covered;
-        founded = all_weaker (is_founded same p) (is_founded same with_addr) still_founded p.routes s.founded;
-        arms_given = s.arms_given;
-        arms_apart = s.arms_apart;
-        variables = s.variables;
-        addresses = order new some short s.addresses;
-        routes = s.routes;
-        arp = s.arp;
-        sockets = s.sockets;
-        timers = s.timers;
-        pings = s.pings;
-        loopback = s.loopback;
-        ident = s.ident;
-      })
+      tabled-sound same p with_addr s named
+      (all_weaker (λ (k : SocketOf N). is_bound_locally p k.ip) (λ (k : SocketOf N). is_bound_locally with_addr k.ip) (λ k. still_bound k.ip) p.sockets s.bound)
+      (all_weaker (λ (g : PingOf N). local g.src p.addresses) (λ (g : PingOf N). local g.src more) (λ g. still_local g.src) p.pings.awaited s.sources)
+      s.arp_covered
+      (all_weaker (is_founded same p) (is_founded same with_addr) still_founded p.routes s.founded)
+      s.variables (order new some short s.addresses) s.routes s.sockets
 
   -- ---- `inet`
 

@@ -25,7 +25,8 @@ use Rattle.vn_rules.specs.Timers.{Timed}
 use Rattle.vn_rules.proofs.Kept.{any_filter}
 use Rattle.vn_rules.proofs.ListTests.{all_filter, all_weaker, all_both, distinct_filter, none_filter}
 use Rattle.vn_rules.proofs.Named.{NamesPass, names_parts, names_from, own_names, of_addresses, of_routes, of_arp, of_pings, of_grams}
-use Rattle.vn_rules.proofs.SoundFacts.{SoundFacts, facts_from_sound, sound_from_facts}
+use Rattle.vn_rules.proofs.SoundEdits.{tabled-sound}
+use Rattle.vn_rules.proofs.SoundFacts.{SoundFacts, facts_from_sound}
 use Rattle.vn_rules.proofs.PingRemoval.{without_pings-names, without_pings-passed, without_pings-sound}
 use Rattle.vn_rules.proofs.ArpRemoval.{without_entries-names, without_entries-passed, without_entries-sound}
 use Rattle.vn_rules.proofs.SocketRemoval.{unbound_from-names, unbound_from-passed, unbound_from-sound}
@@ -120,46 +121,19 @@ module _ {N : Type 0} (same : N → N → Bool) (a : AddrOf N) (p : PartsOf N) w
         let parts = and_parts (are_distinct (λ (x : AddrOf N) (y : AddrOf N). has_ip x.ip y) p.addresses) (list_all (λ (x : AddrOf N). nat_lt 0 x.len && nat_le x.len 32) p.addresses) right in
         and_from _ _ (distinct_filter (λ x. not (is_same same a x)) _ p.addresses parts.0) (all_filter (λ x. not (is_same same a x)) _ p.addresses parts.1)
 
-    facts : SoundFacts same (times_arp same) bare → SoundFacts same (times_arp same) p → SoundFacts same (times_arp same) (without_addr same a p)
-    unfolding without_addr without_entries without_pings unbound_from binds_locally sends_locally owns_timers times_pings times_arp covers_arp founds_routes gave_arms
-    facts b s = record {
-      address_names = of_addresses own (without_addr same a p) named;
-      route_names = of_routes own (without_addr same a p) named;
-      arp_names = of_arp own (without_addr same a p) named;
-      ping_names = of_pings own (without_addr same a p) named;
-      gram_names = of_grams own (without_addr same a p) named;
-      bound = bound b.bound;
-      sources = sources b.sources;
-      owned = b.owned;
-      pings_timed = b.pings_timed;
-      entries_apart = b.entries_apart;
-      arp_timed = b.arp_timed;
-      arp_covered = covered b.arp_covered;
-      founded = founded-without same decides a p (without_addr same a p) refl refl s.founded;
-      arms_given = b.arms_given;
-      arms_apart = b.arms_apart;
-      variables = b.variables;
-      addresses = addresses s.addresses;
-      routes = are_routes-without same a left p.routes s.routes;
-      arp = b.arp;
-      sockets = b.sockets;
-      timers = b.timers;
-      pings = b.pings;
-      loopback = b.loopback;
-      ident = b.ident;
-    }
-      where
-        own : IfOf N → Bool
-        own = is_among same p.interfaces
-
-        named : NamesPass own (without_addr same a p)
-        named = without_addr-names own (own_names same (times_arp same) p s)
+    bared-sound : SoundFacts same (times_arp same) bare → SoundFacts same (times_arp same) p → is_sound_parts same (without_addr same a p) ≡ true
+    unfolding without_addr without_entries without_pings unbound_from binds_locally sends_locally covers_arp founds_routes
+    bared-sound b s =
+        tabled-sound same bare (without_addr same a p) b (without_addr-names (is_among same p.interfaces) (own_names same (times_arp same) p s))
+        (bound b.bound) (sources b.sources) (covered b.arp_covered)
+        (founded-without same decides a p (without_addr same a p) refl refl s.founded)
+        b.variables (addresses s.addresses) (are_routes-without same a left p.routes s.routes) b.sockets
 
     pub without_addr-sound : is_sound_parts same p ≡ true → is_sound_parts same (without_addr same a p) ≡ true
     without_addr-sound sound =
         let used = without_pings-sound same (is_from a.ip) (unbound_from a.ip p) (unbound_from-sound a.ip p same sound) in
         let b = without_entries-sound same decides (is_uncovered same a.on routes) unused used in
-        sound_from_facts same (times_arp same) (without_addr same a p) (facts (facts_from_sound same (times_arp same) bare b) (facts_from_sound same (times_arp same) p sound))
+        bared-sound (facts_from_sound same (times_arp same) bare b) (facts_from_sound same (times_arp same) p sound)
 
 -- ---- as a command removes it
 

@@ -18,7 +18,8 @@ use Rattle.vn_rules.proofs.ListTests.{all_weaker}
 use Rattle.vn_rules.proofs.Named.{names_parts, names_from, own_names, of_addresses, of_routes, of_arp, of_pings, of_grams}
 use Rattle.vn_rules.specs.Purge.{purged}
 use Rattle.vn_rules.proofs.Purged.{purged-forgotten, purged-sound}
-use Rattle.vn_rules.proofs.SoundFacts.{facts_from_sound, sound_from_facts}
+use Rattle.vn_rules.proofs.SoundEdits.{tabled-sound}
+use Rattle.vn_rules.proofs.SoundFacts.{facts_from_sound}
 
 -- ---- under other names of halves
 
@@ -39,36 +40,10 @@ module _ {N : Type 0} (same : N → N → Bool) (p : PartsOf N) (ifs : List (IfO
 
   -- they stay sound where what is named is among them
   pub with_ifs-sound : list_all (is_among same ifs) (named_ifs p) ≡ true → is_sound_parts same p ≡ true → is_sound_parts same (record p { interfaces = ifs }) ≡ true
-  unfolding binds_locally sends_locally owns_timers times_pings times_arp covers_arp founds_routes gave_arms
+  unfolding named_ifs binds_locally sends_locally covers_arp founds_routes
   with_ifs-sound own sound =
       let s = facts_from_sound same (times_arp same) p sound in
-      let n = names_parts (is_among same ifs) p own in
-      sound_from_facts same (times_arp same) with_ifs (record {
-        address_names = of_addresses (is_among same ifs) p n;
-        route_names = of_routes (is_among same ifs) p n;
-        arp_names = of_arp (is_among same ifs) p n;
-        ping_names = of_pings (is_among same ifs) p n;
-        gram_names = of_grams (is_among same ifs) p n;
-        bound = s.bound;
-        sources = s.sources;
-        owned = s.owned;
-        pings_timed = s.pings_timed;
-        entries_apart = s.entries_apart;
-        arp_timed = s.arp_timed;
-        arp_covered = s.arp_covered;
-        founded = s.founded;
-        arms_given = s.arms_given;
-        arms_apart = s.arms_apart;
-        variables = s.variables;
-        addresses = s.addresses;
-        routes = s.routes;
-        arp = s.arp;
-        sockets = s.sockets;
-        timers = s.timers;
-        pings = s.pings;
-        loopback = s.loopback;
-        ident = s.ident;
-      })
+      tabled-sound same p with_ifs s (names_parts (is_among same ifs) with_ifs own) s.bound s.sources s.arp_covered s.founded s.variables s.addresses s.routes s.sockets
 
 module _ {N : Type 0} (same : N → N → Bool) (p : PartsOf N) where
   own_named : is_sound_parts same p ≡ true → list_all (is_among same p.interfaces) (named_ifs p) ≡ true

@@ -30,6 +30,7 @@ pub mod SocketEdits
 pub mod SocketKept
 pub mod SocketQueues
 pub mod Named
+pub mod SoundEdits
 pub mod PingRemoval
 pub mod ArpRemoval
 pub mod SocketRemoval

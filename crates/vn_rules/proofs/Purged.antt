@@ -26,7 +26,8 @@ use Rattle.vn_rules.specs.Timers.{Timed}
 use Rattle.vn_rules.proofs.Kept.{IsIn, all_from_none, all_in, all_filtered, all_passed, any_filter, none_from_all}
 use Rattle.vn_rules.proofs.ListTests.{all_filter, all_weaker, all_both, none_filter}
 use Rattle.vn_rules.proofs.Named.{NamesPass, names_parts, names_from, own_names, of_addresses, of_routes, of_arp, of_pings, of_grams}
-use Rattle.vn_rules.proofs.SoundFacts.{SoundFacts, facts_from_sound, sound_from_facts}
+use Rattle.vn_rules.proofs.SoundEdits.{tabled-sound}
+use Rattle.vn_rules.proofs.SoundFacts.{SoundFacts, facts_from_sound}
 use Rattle.vn_rules.proofs.PingRemoval.{without_pings-names, without_pings-passed, without_pings-sound}
 use Rattle.vn_rules.proofs.ArpRemoval.{without_entries-names, without_entries-passed, without_entries-stopped, without_entries-sound}
 use Rattle.vn_rules.proofs.SocketRemoval.{without_grams_by-names, without_grams_by-passed, without_grams_by-sound}
@@ -143,45 +144,17 @@ module _ {N : Type 0} (same : N → N → Bool) (h : N) (p : PartsOf N) where
         by (to, Link own) kept is = is
         by (to, Gateway via half) kept is = covered half via kept is
 
-    facts : SoundFacts same (times_arp same) bare → SoundFacts same (times_arp same) p → SoundFacts same (times_arp same) (without_names same h p)
-    unfolding without_names without_entries without_pings without_grams_by binds_locally sends_locally owns_timers times_pings times_arp covers_arp founds_routes gave_arms
-    facts b s = record {
-      address_names = of_addresses own (without_names same h p) named;
-      route_names = of_routes own (without_names same h p) named;
-      arp_names = of_arp own (without_names same h p) named;
-      ping_names = of_pings own (without_names same h p) named;
-      gram_names = of_grams own (without_names same h p) named;
-      bound = b.bound;
-      sources = b.sources;
-      owned = b.owned;
-      pings_timed = b.pings_timed;
-      entries_apart = b.entries_apart;
-      arp_timed = b.arp_timed;
-      arp_covered = arp_covered b.arp_covered;
-      founded = founded s.founded;
-      arms_given = b.arms_given;
-      arms_apart = b.arms_apart;
-      variables = b.variables;
-      addresses = b.addresses;
-      routes = are_routes-kept (λ (e : Routed N). not (if_same same (target_if e.1) (Half h))) p.routes s.routes;
-      arp = b.arp;
-      sockets = b.sockets;
-      timers = b.timers;
-      pings = b.pings;
-      loopback = b.loopback;
-      ident = b.ident;
-    }
-      where
-        own : IfOf N → Bool
-        own = is_among same p.interfaces
-
-        named : NamesPass own (without_names same h p)
-        named = without_names-names own (own_names same (times_arp same) p s)
+    bared-sound : SoundFacts same (times_arp same) bare → SoundFacts same (times_arp same) p → is_sound_parts same (without_names same h p) ≡ true
+    unfolding without_names without_entries without_pings without_grams_by binds_locally sends_locally covers_arp founds_routes
+    bared-sound b s =
+        tabled-sound same bare (without_names same h p) b (without_names-names (is_among same p.interfaces) (own_names same (times_arp same) p s))
+        b.bound b.sources (arp_covered b.arp_covered) (founded s.founded)
+        b.variables b.addresses (are_routes-kept (λ (e : Routed N). not (if_same same (target_if e.1) (Half h))) p.routes s.routes) b.sockets
 
     without_names-sound : is_sound_parts same p ≡ true → is_sound_parts same (without_names same h p) ≡ true
     without_names-sound sound =
         let b = without_entries-sound same decides by_name unpinged (without_pings-sound same (is_out_by same (Half h)) unheard (without_grams_by-sound same (Half h) p sound)) in
-        sound_from_facts same (times_arp same) (without_names same h p) (facts (facts_from_sound same (times_arp same) bare b) (facts_from_sound same (times_arp same) p sound))
+        bared-sound (facts_from_sound same (times_arp same) bare b) (facts_from_sound same (times_arp same) p sound)
 
 -- ---- all of it
 

@@ -31,7 +31,8 @@ use Rattle.vn_rules.proofs.Kept.{all_filtered, all_from_none, from_any}
 use Rattle.vn_rules.proofs.ListTests.{all_weaker}
 use Rattle.vn_rules.proofs.Named.{NamesPass, own_names, of_routes}
 use Rattle.vn_rules.proofs.RouteEdits.{are_routes-insert, are_routes-remove}
-use Rattle.vn_rules.proofs.SoundFacts.{SoundFacts, facts_from_sound, sound_from_facts}
+use Rattle.vn_rules.proofs.SoundEdits.{tabled-sound}
+use Rattle.vn_rules.proofs.SoundFacts.{SoundFacts, facts_from_sound}
 
 -- ---- an entry that comes, where its key has none, or has that value
 
@@ -142,37 +143,12 @@ module _ {N : Type 0} (same : N → N → Bool) (decides : (a b : N) → Decides
     pub with_routes-sound : are_routes rs ≡ true → list_all (λ (e : Routed N). is_among same p.interfaces (target_if e.1)) rs ≡ true
         → list_all (λ (e : ArpEntryOf N). covers same (Half e.half) e.ip rs) p.arp ≡ true → list_all (is_founded same (record p { routes = rs })) rs ≡ true
         → is_sound_parts same p ≡ true → is_sound_parts same (record p { routes = rs }) ≡ true
-    unfolding binds_locally sends_locally owns_timers times_pings times_arp covers_arp founds_routes gave_arms
+    unfolding binds_locally sends_locally covers_arp founds_routes
     with_routes-sound order names covered founded sound =
         let s = facts_from_sound same (times_arp same) p sound in
         let n = own_names same (times_arp same) p s in
         let named : NamesPass (is_among same p.interfaces) with_routes = record { addresses = n.addresses; routes = names; arp = n.arp; pings = n.pings; grams = n.grams } in
-        sound_from_facts same (times_arp same) with_routes (record {
-          address_names = s.address_names;
-          route_names = of_routes (is_among same p.interfaces) with_routes named;
-          arp_names = s.arp_names;
-          ping_names = s.ping_names;
-          gram_names = s.gram_names;
-          bound = s.bound;
-          sources = s.sources;
-          owned = s.owned;
-          pings_timed = s.pings_timed;
-          entries_apart = s.entries_apart;
-          arp_timed = s.arp_timed;
-          arp_covered = covered;
-          founded = founded;
-          arms_given = s.arms_given;
-          arms_apart = s.arms_apart;
-          variables = s.variables;
-          addresses = s.addresses;
-          routes = order;
-          arp = s.arp;
-          sockets = s.sockets;
-          timers = s.timers;
-          pings = s.pings;
-          loopback = s.loopback;
-          ident = s.ident;
-        })
+        tabled-sound same p with_routes s named s.bound s.sources covered founded s.variables s.addresses order s.sockets
 
   module _ (p : PartsOf N) (sound : is_sound_parts same p ≡ true) where
     facts : SoundFacts same (times_arp same) p

@@ -8,9 +8,11 @@ use Rattle.vn_rules.specs.declared.parts.PartsOf.{PartsOf}
 use Rattle.vn_rules.specs.Interfaces.{queue_ifs, is_among}
 use Rattle.vn_rules.specs.Orders.{are_distinct, is_socket, are_sockets}
 use Rattle.vn_rules.specs.Ports.{are_in_conflict}
-use Rattle.vn_rules.specs.Soundness.{is_bound_locally, binds_locally, sends_locally, owns_timers, times_pings, times_arp, covers_arp, founds_routes, gave_arms, is_sound_parts}
+use Rattle.vn_rules.specs.Soundness.{is_bound_locally, binds_locally, sends_locally, times_arp, covers_arp, founds_routes, is_sound_parts}
 use Rattle.vn_rules.proofs.ListTests.{all_weaker, all_map_kept, all_flat_map, distinct_map_same}
-use Rattle.vn_rules.proofs.SoundFacts.{are_own, facts_from_sound, sound_from_facts}
+use Rattle.vn_rules.proofs.Named.{all_queues, own_names}
+use Rattle.vn_rules.proofs.SoundEdits.{tabled-sound}
+use Rattle.vn_rules.proofs.SoundFacts.{are_own, facts_from_sound}
 
 module _ {N : Type 0} (same : N → N → Bool) where
   -- what a sound stack asks of each socket by itself
@@ -43,35 +45,16 @@ module _ {N : Type 0} (same : N → N → Bool) where
             and_from _ _ (and_from _ _ (and_from (a s) (b s) p.0 q.0) r.0) (three a b c xs p.1 q.1 r.1)
 
     pub sound_with_sockets : (sockets : List (SocketOf N)) → is_sound_parts same p ≡ true → AreRight p sockets → is_sound_parts same (record p { sockets = sockets }) ≡ true
-    unfolding binds_locally sends_locally are_sockets owns_timers times_pings times_arp covers_arp founds_routes gave_arms
+    unfolding binds_locally sends_locally are_sockets covers_arp founds_routes
     sound_with_sockets sockets sound right =
         let f = facts_from_sound same (times_arp same) p sound in
-        sound_from_facts same (times_arp same) (record p { sockets = sockets }) (record {
-          address_names = f.address_names;
-          route_names = f.route_names;
-          arp_names = f.arp_names;
-          ping_names = f.ping_names;
-          gram_names = all_flat_map (is_among same p.interfaces) queue_ifs sockets ∙ all_weaker (is_right p) _ (λ s is. (and_parts _ (are_own same (times_arp same) p (queue_ifs s)) is).1) sockets right.each;
-          bound = all_weaker (is_right p) _ (λ s is. (and_parts (is_socket s) _ (and_parts _ _ is).0).1) sockets right.each;
-          sources = f.sources;
-          owned = f.owned;
-          pings_timed = f.pings_timed;
-          entries_apart = f.entries_apart;
-          arp_timed = f.arp_timed;
-          arp_covered = f.arp_covered;
-          founded = f.founded;
-          arms_given = f.arms_given;
-          arms_apart = f.arms_apart;
-          variables = f.variables;
-          addresses = f.addresses;
-          routes = f.routes;
-          arp = f.arp;
-          sockets = and_from _ _ (and_from _ _ right.names right.ports) (all_weaker (is_right p) is_socket (λ s is. (and_parts (is_socket s) _ (and_parts _ _ is).0).0) sockets right.each);
-          timers = f.timers;
-          pings = f.pings;
-          loopback = f.loopback;
-          ident = f.ident;
-        })
+        let n = own_names same (times_arp same) p f in
+        let heard : list_all (λ s. are_own same (times_arp same) p (queue_ifs s)) sockets ≡ true = all_weaker (is_right p) _ (λ s is. (and_parts _ (are_own same (times_arp same) p (queue_ifs s)) is).1) sockets right.each in
+        tabled-sound same p (record p { sockets = sockets }) f
+        (record { addresses = n.addresses; routes = n.routes; arp = n.arp; pings = n.pings; grams = sym (all_queues (is_among same p.interfaces) sockets) ∙ all_flat_map (is_among same p.interfaces) queue_ifs sockets ∙ heard })
+        (all_weaker (is_right p) _ (λ s is. (and_parts (is_socket s) _ (and_parts _ _ is).0).1) sockets right.each)
+        f.sources f.arp_covered f.founded f.variables f.addresses f.routes
+        (and_from _ _ (and_from _ _ right.names right.ports) (all_weaker (is_right p) is_socket (λ s is. (and_parts (is_socket s) _ (and_parts _ _ is).0).0) sockets right.each))
 
     -- ---- each socket keeps its name, address and port
 

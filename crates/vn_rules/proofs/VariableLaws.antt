@@ -11,9 +11,11 @@ use Rattle.vn_types.proofs.RefusalLaws.{none-applies}
 use Rattle.vn_rules.specs.declared.parts.PartsOf.{PartsOf}
 use Rattle.vn_rules.specs.declared.variable.Bounds.{Bounds}
 use Rattle.vn_rules.specs.declared.variable.Variable.{Variable}
-use Rattle.vn_rules.specs.Soundness.{binds_locally, sends_locally, owns_timers, times_pings, times_arp, covers_arp, founds_routes, gave_arms, is_sound_parts}
+use Rattle.vn_rules.specs.Soundness.{binds_locally, sends_locally, times_arp, covers_arp, founds_routes, is_sound_parts}
 use Rattle.vn_rules.specs.Variables.{allows, Declaration, bounds_of, value_of, with_value, are_declared, declarations, set_refusals}
-use Rattle.vn_rules.proofs.SoundFacts.{facts_from_sound, sound_from_facts}
+use Rattle.vn_rules.proofs.Named.{own_names}
+use Rattle.vn_rules.proofs.SoundEdits.{tabled-sound}
+use Rattle.vn_rules.proofs.SoundFacts.{facts_from_sound}
 
 -- a declaration and the variable that stands for it have one name
 same_name : (name : List ℕ) (d : Declaration) (v : Variable) → bytes_eq d.0 v.name ≡ true → bytes_eq name v.name ≡ bytes_eq name d.0
@@ -58,32 +60,12 @@ with_value-declared name value (d ∷ declared) (v ∷ variables) fits are =
 
 module _ {N : Type 0} (same : N → N → Bool) (p : PartsOf N) where
   pub with_value-sound : (name : List ℕ) (value : ℕ) → is_sound_parts same p ≡ true → first_refusal (set_refusals name value declarations) ≡ None → is_sound_parts same (record p { variables = with_value name value p.variables }) ≡ true
-  unfolding binds_locally sends_locally owns_timers times_pings times_arp covers_arp founds_routes gave_arms
+  unfolding binds_locally sends_locally covers_arp founds_routes
   with_value-sound name value sound none =
       let f = facts_from_sound same (times_arp same) p sound in
-      sound_from_facts same (times_arp same) (record p { variables = with_value name value p.variables }) (record {
-        address_names = f.address_names;
-        route_names = f.route_names;
-        arp_names = f.arp_names;
-        ping_names = f.ping_names;
-        gram_names = f.gram_names;
-        bound = f.bound;
-        sources = f.sources;
-        owned = f.owned;
-        pings_timed = f.pings_timed;
-        entries_apart = f.entries_apart;
-        arp_timed = f.arp_timed;
-        arp_covered = f.arp_covered;
-        founded = f.founded;
-        arms_given = f.arms_given;
-        arms_apart = f.arms_apart;
-        variables = with_value-declared name value declarations p.variables (not-false _ (none-applies (set_refusals name value declarations) none).1.0) f.variables;
-        addresses = f.addresses;
-        routes = f.routes;
-        arp = f.arp;
-        sockets = f.sockets;
-        timers = f.timers;
-        pings = f.pings;
-        loopback = f.loopback;
-        ident = f.ident;
-      })
+      let n = own_names same (times_arp same) p f in
+      tabled-sound same p (record p { variables = with_value name value p.variables }) f
+      (record { addresses = n.addresses; routes = n.routes; arp = n.arp; pings = n.pings; grams = n.grams })
+      f.bound f.sources f.arp_covered f.founded
+      (with_value-declared name value declarations p.variables (not-false _ (none-applies (set_refusals name value declarations) none).1.0) f.variables)
+      f.addresses f.routes f.sockets
