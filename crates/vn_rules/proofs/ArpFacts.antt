@@ -19,7 +19,9 @@ use Rattle.vn_rules.specs.Timers.{Turn, Timed}
 use Rattle.vn_rules.proofs.ArpPlaces.{AtPlace, place_from_test, test_from_place, put, all_put, any_put, distinct_put}
 use Rattle.vn_rules.proofs.ListTests.{absent-none, none_weaker, find_passes, find_all}
 use Rattle.vn_rules.proofs.TimerEdits.{zero_from_all}
-use Rattle.vn_rules.proofs.SoundFacts.{SoundFacts, facts_from_sound, sound_from_facts}
+use Rattle.vn_rules.proofs.Named.{own_names}
+use Rattle.vn_rules.proofs.SoundEdits.{timing-sound}
+use Rattle.vn_rules.proofs.SoundFacts.{SoundFacts, facts_from_sound}
 
 module _ {N : Type 0} (same : N → N → Bool) (decides : (g h : N) → Decides (same g h) (g ≡ h)) (half : N) (ip : Ip4) where
   -- whether it is a timer of that place
@@ -101,39 +103,22 @@ module _ {N : Type 0} (same : N → N → Bool) (decides : (g h : N) → Decides
       pub put_sound : (times : PartsOf N → Bool) → SoundFacts same times p → is_entry_at same half ip t ≡ true → is_right_in t.state t ≡ true
           → is_among same p.interfaces (Half half) ≡ true → covers same (Half half) ip p.routes ≡ true
           → owns_timers same with_put ≡ true → times_pings with_put ≡ true → times_arp same with_put ≡ true → gave_arms with_put ≡ true → are_timers ts ≡ true → is_sound_parts same with_put ≡ true
-      unfolding binds_locally sends_locally covers_arp founds_routes are_arp_entries
+      unfolding sends_locally covers_arp are_arp_entries
       put_sound times f there right among covered owned pings timed given order =
-          sound_from_facts same (times_arp same) with_put (record {
-            address_names = f.address_names;
-            route_names = f.route_names;
-            arp_names =
-                list_all-map (is_among same p.interfaces) (λ (e : ArpEntryOf N). Half e.half) (put same decides half ip t p.arp)
-                ∙ all_put same decides half ip t (λ e. is_among same p.interfaces (Half e.half)) (λ e. is_among same p.interfaces (Half e.half)) (λ e is apart. is) (ap (λ h. is_among same p.interfaces (Half h)) here.halves ∙ among) p.arp
-                (sym (list_all-map (is_among same p.interfaces) (λ (e : ArpEntryOf N). Half e.half) p.arp) ∙ f.arp_names);
-            ping_names = f.ping_names;
-            gram_names = f.gram_names;
-            bound = f.bound;
-            sources = f.sources;
-            owned = owned;
-            pings_timed = pings;
-            entries_apart = distinct_put same decides half ip t there p.arp f.entries_apart;
-            arp_timed = timed;
-            arp_covered =
-                all_put same decides half ip t (λ e. covers same (Half e.half) e.ip p.routes) (λ e. covers same (Half e.half) e.ip p.routes) (λ e is apart. is)
-                ((λ i. covers same (Half (here.halves i)) (here.addresses i) p.routes) ∙ covered) p.arp f.arp_covered;
-            founded = f.founded;
-            arms_given = given;
-            arms_apart = f.arms_apart;
-            variables = f.variables;
-            addresses = f.addresses;
-            routes = f.routes;
-            arp = all_put same decides half ip t (λ (e : ArpEntryOf N). is_right_in e.state e) (λ (e : ArpEntryOf N). is_right_in e.state e) (λ e is apart. is) right p.arp f.arp;
-            sockets = f.sockets;
-            timers = order;
-            pings = f.pings;
-            loopback = f.loopback;
-            ident = f.ident;
+          let n = own_names same times p f in
+          timing-sound same p with_put times (times_arp same) f
+          (record {
+            addresses = n.addresses; routes = n.routes; pings = n.pings; grams = n.grams;
+            arp = all_put same decides half ip t (λ e. is_among same p.interfaces (Half e.half)) (λ e. is_among same p.interfaces (Half e.half)) (λ e is apart. is) (ap (λ h. is_among same p.interfaces (Half h)) here.halves ∙ among) p.arp n.arp;
           })
+          f.sources owned pings
+          (distinct_put same decides half ip t there p.arp f.entries_apart)
+          timed
+          (all_put same decides half ip t (λ e. covers same (Half e.half) e.ip p.routes) (λ e. covers same (Half e.half) e.ip p.routes) (λ e is apart. is)
+          ((λ i. covers same (Half (here.halves i)) (here.addresses i) p.routes) ∙ covered) p.arp f.arp_covered)
+          given f.arms_apart
+          (all_put same decides half ip t (λ (e : ArpEntryOf N). is_right_in e.state e) (λ (e : ArpEntryOf N). is_right_in e.state e) (λ e is apart. is) right p.arp f.arp)
+          order f.pings
         where
           here : AtPlace same decides half ip t.half t.ip
           here = place_from_test same decides half ip t.half t.ip there

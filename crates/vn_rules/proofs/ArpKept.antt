@@ -26,7 +26,8 @@ use Rattle.vn_rules.proofs.ArpFacts.{has_but, has_own, own-apart}
 use Rattle.vn_rules.proofs.ArpPlaces.{base, base-place, with_entry-put}
 use Rattle.vn_rules.proofs.ArpTimed.{all_apart, untimed-sound, timed-sound, untimed_put-sound, kept_put-sound}
 use Rattle.vn_rules.proofs.ListTests.{absent-none, find_all}
-use Rattle.vn_rules.proofs.SoundFacts.{SoundFacts, facts_from_sound, sound_from_facts, retimed}
+use Rattle.vn_rules.proofs.SoundEdits.{retimed}
+use Rattle.vn_rules.proofs.SoundFacts.{SoundFacts, facts_from_sound}
 
 -- the newest of a list are as many as asked for, or fewer
 pub newest-length : {X : Type 0} (n : ℕ) (xs : List X) → nat_le (length (newest n xs)) n ≡ true
@@ -58,17 +59,15 @@ module _ {N : Type 0} (same : N → N → Bool) (decides : (g h : N) → Decides
   unfolding times_arp times_arp_but
   but-absent p none sound =
       let f = facts_from_sound same (times_arp same) p sound in
-      sound_from_facts same (times_arp_but same half ip) p
-      (retimed same (times_arp same) (times_arp_but same half ip) p f
-      (all_apart (has_own same decides half ip p) (is_entry_at same half ip) (has_but same decides half ip p) (λ e holds apart. own-apart same decides half ip p e apart ∙ holds) p.arp none f.arp_timed))
+      retimed same (times_arp same) (times_arp_but same half ip) p f
+      (all_apart (has_own same decides half ip p) (is_entry_at same half ip) (has_but same decides half ip p) (λ e holds apart. own-apart same decides half ip p e apart ∙ holds) p.arp none f.arp_timed)
 
   pub absent-but : (p : PartsOf N) → list_any (is_entry_at same half ip) p.arp ≡ false → is_sound_but same half ip p ≡ true → is_sound_parts same p ≡ true
   unfolding times_arp times_arp_but
   absent-but p none sound =
       let f = facts_from_sound same (times_arp_but same half ip) p sound in
-      sound_from_facts same (times_arp same) p
-      (retimed same (times_arp_but same half ip) (times_arp same) p f
-      (all_apart (has_but same decides half ip p) (is_entry_at same half ip) (has_own same decides half ip p) (λ e holds apart. sym (own-apart same decides half ip p e apart) ∙ holds) p.arp none f.arp_timed))
+      retimed same (times_arp_but same half ip) (times_arp same) p f
+      (all_apart (has_but same decides half ip p) (is_entry_at same half ip) (has_own same decides half ip p) (λ e holds apart. sym (own-apart same decides half ip p e apart) ∙ holds) p.arp none f.arp_timed)
 
   -- ---- a packet, and what is set by hand
 

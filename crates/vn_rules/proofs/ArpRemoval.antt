@@ -20,7 +20,9 @@ use Rattle.vn_rules.proofs.Kept.{all_filtered, all_passed, any_filter, count_fil
 use Rattle.vn_rules.specs.Interfaces.{is_among}
 use Rattle.vn_rules.proofs.ListTests.{all_filter, all_weaker, distinct_filter}
 use Rattle.vn_rules.proofs.Named.{NamesPass, own_names, of_addresses, of_routes, of_arp, of_pings, of_grams}
-use Rattle.vn_rules.proofs.SoundFacts.{SoundFacts, facts_from_sound, sound_from_facts}
+use Rattle.vn_rules.proofs.SoundEdits.{timing-sound}
+use Rattle.vn_rules.proofs.SoundFacts.{SoundFacts, facts_from_sound}
+use Rattle.vn_rules.proofs.TimerEdits.{are_timers-kept}
 
 module _ {N : Type 0} (gone : N → Ip4 → Bool) (p : PartsOf N) where
   abbrev stays : ArpEntryOf N → Bool
@@ -93,45 +95,23 @@ module _ {N : Type 0} (same : N → N → Bool) (decides : (a b : N) → Decides
       by a kept right = ap (λ n. n == timers_wanted same a.state) (count_filter (is_timer_at same a) (timer_stays gone p) p.timers.standing (λ e _. untimed a kept e))
           ∙ sym (ap (λ b. b || (count_by (is_timer_at same a) p.timers.standing == timers_wanted same a.state)) (not-true _ kept)) ∙ right
 
-  abbrev own : IfOf N → Bool
-  own = is_among same p.interfaces
-
-  named : NamesPass own (without_entries gone p)
-  named = without_entries-names gone p own (own_names same times p s)
-
   -- where each entry that stays has its own timers
-  pub without_entries-facts : SoundFacts same (times_arp same) (without_entries gone p)
-  unfolding without_entries binds_locally sends_locally founds_routes gave_arms has_distinct_entries covers_arp are_arp_entries are_timers
-  without_entries-facts = record {
-    address_names = of_addresses own (without_entries gone p) named;
-    route_names = of_routes own (without_entries gone p) named;
-    arp_names = of_arp own (without_entries gone p) named;
-    ping_names = of_pings own (without_entries gone p) named;
-    gram_names = of_grams own (without_entries gone p) named;
-    bound = s.bound;
-    sources = s.sources;
-    owned = owned;
-    pings_timed = pings_timed;
-    entries_apart = distinct_filter (stays gone p) _ p.arp s.entries_apart;
-    arp_timed = arp_timed;
-    arp_covered = all_filter (stays gone p) _ p.arp s.arp_covered;
-    founded = s.founded;
-    arms_given = all_filter (timer_stays gone p) _ p.timers.standing s.arms_given;
-    arms_apart = s.arms_apart;
-    variables = s.variables;
-    addresses = s.addresses;
-    routes = s.routes;
-    arp = all_filter (stays gone p) _ p.arp s.arp;
-    sockets = s.sockets;
-    timers = let t = and_parts (are_rising turn_cmp (keys_of p.timers.standing)) _ s.timers in and_from _ _ (rising_kept turn_cmp (timer_stays gone p) p.timers.standing t.0) (distinct_filter (timer_stays gone p) _ p.timers.standing t.1);
-    pings = s.pings;
-    loopback = s.loopback;
-    ident = s.ident;
-  }
+  pub without_entries-retimed : is_sound_parts same (without_entries gone p) ≡ true
+  unfolding without_entries sends_locally gave_arms has_distinct_entries covers_arp are_arp_entries
+  without_entries-retimed =
+      timing-sound same p (without_entries gone p) times (times_arp same) s
+      (without_entries-names gone p (is_among same p.interfaces) (own_names same times p s))
+      s.sources owned pings_timed
+      (distinct_filter (stays gone p) _ p.arp s.entries_apart)
+      arp_timed
+      (all_filter (stays gone p) _ p.arp s.arp_covered)
+      (all_filter (timer_stays gone p) _ p.timers.standing s.arms_given)
+      s.arms_apart
+      (all_filter (stays gone p) _ p.arp s.arp)
+      (are_timers-kept (timer_stays gone p) p.timers s.timers) s.pings
 
 pub without_entries-sound : {N : Type 0} (same : N → N → Bool) (decides : (a b : N) → Decides (same a b) (a ≡ b)) (gone : N → Ip4 → Bool) (p : PartsOf N) → is_sound_parts same p ≡ true → is_sound_parts same (without_entries gone p) ≡ true
 unfolding times_arp
 without_entries-sound same decides gone p sound =
     let f = facts_from_sound same (times_arp same) p sound in
-    sound_from_facts same (times_arp same) (without_entries gone p)
-    (without_entries-facts same decides gone p (times_arp same) f (all_weaker (λ a. count_by (is_timer_at same a) p.timers.standing == timers_wanted same a.state) _ (λ a is. or_right (gone a.half a.ip) _ is) p.arp f.arp_timed))
+    without_entries-retimed same decides gone p (times_arp same) f (all_weaker (λ a. count_by (is_timer_at same a) p.timers.standing == timers_wanted same a.state) _ (λ a is. or_right (gone a.half a.ip) _ is) p.arp f.arp_timed)

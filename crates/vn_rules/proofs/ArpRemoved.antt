@@ -22,11 +22,11 @@ use Rattle.vn_rules.specs.Routes.{covers, gateway_half}
 use Rattle.vn_rules.specs.Soundness.{timers_wanted, times_arp, times_arp_but, covers_arp, is_sound_parts, is_sound_but}
 use Rattle.vn_rules.proofs.ArpFacts.{has_but, has_own, own-apart}
 use Rattle.vn_rules.proofs.ArpKept.{absent-but, after_static-sound, from_base, timed_entry-sound}
-use Rattle.vn_rules.proofs.ArpRemoval.{without_entries-facts, without_entries-sound}
+use Rattle.vn_rules.proofs.ArpRemoval.{without_entries-retimed, without_entries-sound}
 use Rattle.vn_rules.proofs.ArpPlaces.{place_from_test, base-place}
 use Rattle.vn_rules.proofs.ListTests.{absent-none, all_weaker, find_passes, find_all}
 use Rattle.vn_rules.proofs.RouteAdded.{gateway-own, gateway-covered}
-use Rattle.vn_rules.proofs.SoundFacts.{SoundFacts, facts_from_sound, sound_from_facts}
+use Rattle.vn_rules.proofs.SoundFacts.{facts_from_sound}
 
 module _ {N : Type 0} (same : N → N → Bool) (decides : (g h : N) → Decides (same g h) (g ≡ h)) (p : PartsOf N) where
   pub after_arp_delete-sound : (ip : Ip4) → is_sound_parts same p ≡ true → is_sound_parts same (after_arp_delete ip p) ≡ true
@@ -49,8 +49,7 @@ module _ {N : Type 0} (same : N → N → Bool) (decides : (g h : N) → Decides
     unfolding times_arp_but
     removed-sound =
         let f = facts_from_sound same (times_arp_but same half ip) p sound in
-        sound_from_facts same (times_arp same) (without_entries (is_place same half ip) p)
-        (without_entries-facts same decides (is_place same half ip) p (times_arp_but same half ip) f (all_weaker (has_but same decides half ip p) _ (λ e is. by (is_entry_at same half ip e) e refl is) p.arp f.arp_timed))
+        without_entries-retimed same decides (is_place same half ip) p (times_arp_but same half ip) f (all_weaker (has_but same decides half ip p) _ (λ e is. by (is_entry_at same half ip e) e refl is) p.arp f.arp_timed)
       where
         by : (b : Bool) (e : ArpEntryOf N) → is_entry_at same half ip e ≡ b → has_but same decides half ip p e ≡ true → (is_entry_at same half ip e || has_own same decides half ip p e) ≡ true
         by true e is holds = or_left _ _ is

@@ -25,8 +25,10 @@ use Rattle.vn_rules.proofs.ArpFacts.{at_place, timers-there, timers-apart, new-t
 use Rattle.vn_rules.proofs.ArpPlaces.{all_put, any_put_here}
 use Rattle.vn_rules.proofs.Kept.{none_from_all, rising_kept}
 use Rattle.vn_rules.proofs.ListTests.{all_weaker, all_filter, distinct_filter, find_passes, find_all}
-use Rattle.vn_rules.proofs.SoundFacts.{SoundFacts, facts_from_sound, sound_from_facts}
-use Rattle.vn_rules.proofs.TimerEdits.{Inserted, count_inserted, all_inserted, distinct_inserted, count_filter_all, count_filter_none, insert_entry-Inserted, rising-inserted}
+use Rattle.vn_rules.proofs.Named.{own_names}
+use Rattle.vn_rules.proofs.SoundEdits.{timing-sound}
+use Rattle.vn_rules.proofs.SoundFacts.{SoundFacts, facts_from_sound}
+use Rattle.vn_rules.proofs.TimerEdits.{are_timers-kept, Inserted, count_inserted, all_inserted, distinct_inserted, count_filter_all, count_filter_none, insert_entry-Inserted, rising-inserted}
 
 pub all_apart : {A : Type 0} (p a q : A → Bool) → ((x : A) → p x ≡ true → a x ≡ false → q x ≡ true) → (xs : List A) → list_any a xs ≡ false → list_all p xs ≡ true → list_all q xs ≡ true
 all_apart p a q out [] none all = refl
@@ -37,38 +39,21 @@ module _ {N : Type 0} (same : N → N → Bool) (decides : (g h : N) → Decides
   -- ---- the timer of the place is taken out
 
   pub untimed-sound : is_sound_parts same p ≡ true → is_sound_but same half ip (untimed same half ip p) ≡ true
-  unfolding binds_locally sends_locally owns_timers times_pings times_arp times_arp_but covers_arp founds_routes gave_arms are_timers
+  unfolding sends_locally owns_timers times_pings times_arp times_arp_but covers_arp gave_arms
   untimed-sound sound =
-      sound_from_facts same (times_arp_but same half ip) (untimed same half ip p) (record {
-        address_names = f.address_names;
-        route_names = f.route_names;
-        arp_names = f.arp_names;
-        ping_names = f.ping_names;
-        gram_names = f.gram_names;
-        bound = f.bound;
-        sources = f.sources;
-        owned = all_filter keep (has_owner same p) p.timers.standing f.owned;
-        pings_timed = all_weaker (λ (ping : PingOf N). count_by (is_timer_for ping) p.timers.standing == 1) _ (λ ping is. ap (λ n. n == 1) (count_filter_all keep (is_timer_for ping) (pinged ping) p.timers.standing) ∙ is) p.pings.awaited f.pings_timed;
-        entries_apart = f.entries_apart;
-        arp_timed = all_weaker (has_own same decides half ip p) _ (λ e is. timed (is_entry_at same half ip e) e refl is) p.arp f.arp_timed;
-        arp_covered = f.arp_covered;
-        founded = f.founded;
-        arms_given = all_filter keep _ p.timers.standing f.arms_given;
-        arms_apart = f.arms_apart;
-        variables = f.variables;
-        addresses = f.addresses;
-        routes = f.routes;
-        arp = f.arp;
-        sockets = f.sockets;
-        timers = let two = and_parts (are_rising turn_cmp (keys_of p.timers.standing)) _ f.timers in and_from _ _ (rising_kept turn_cmp keep p.timers.standing two.0) (distinct_filter keep _ p.timers.standing two.1);
-        pings = f.pings;
-        loopback = f.loopback;
-        ident = f.ident;
-      })
+      let f = facts_from_sound same (times_arp same) p sound in
+      let n = own_names same (times_arp same) p f in
+      timing-sound same p (untimed same half ip p) (times_arp same) (times_arp_but same half ip) f
+      (record { addresses = n.addresses; routes = n.routes; arp = n.arp; pings = n.pings; grams = n.grams })
+      f.sources
+      (all_filter keep (has_owner same p) p.timers.standing f.owned)
+      (all_weaker (λ (ping : PingOf N). count_by (is_timer_for ping) p.timers.standing == 1) _ (λ ping is. ap (λ n. n == 1) (count_filter_all keep (is_timer_for ping) (pinged ping) p.timers.standing) ∙ is) p.pings.awaited f.pings_timed)
+      f.entries_apart
+      (all_weaker (has_own same decides half ip p) _ (λ e is. timed (is_entry_at same half ip e) e refl is) p.arp f.arp_timed)
+      f.arp_covered
+      (all_filter keep _ p.timers.standing f.arms_given)
+      f.arms_apart f.arp (are_timers-kept keep p.timers f.timers) f.pings
     where
-      f : SoundFacts same (times_arp same) p
-      f = facts_from_sound same (times_arp same) p sound
-
       keep : Timed N → Bool
       keep t = not (at_place same decides half ip t)
 

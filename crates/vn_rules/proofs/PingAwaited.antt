@@ -20,7 +20,8 @@ use Rattle.vn_rules.specs.Timers.{Timed, turn_cmp}
 use Rattle.vn_rules.proofs.Kept.{from_any, any_from_count, none_from_all}
 use Rattle.vn_rules.proofs.ListTests.{all_weaker, all_both, all_push, distinct_push}
 use Rattle.vn_rules.proofs.Named.{NamesPass, own_names, of_pings}
-use Rattle.vn_rules.proofs.SoundFacts.{SoundFacts, facts_from_sound, sound_from_facts}
+use Rattle.vn_rules.proofs.SoundEdits.{timing-sound}
+use Rattle.vn_rules.proofs.SoundFacts.{SoundFacts, facts_from_sound}
 use Rattle.vn_rules.proofs.TimerEdits.{Inserted, count_inserted, all_inserted, distinct_inserted, zero_from_all, insert_entry-Inserted, rising-inserted}
 
 -- a number below another is not it, either way round
@@ -131,41 +132,15 @@ module _ {N : Type 0} (same : N → N → Bool) (now : ℕ) (src dst : Ip4) (out
         wraps : (n : ℕ) → has_16_bits (n % 2 ^ 16) ≡ true
         wraps n = lt-ltb (n % 2 ^ 16) (2 ^ 16) (omega arith)
 
-    awaiting-facts : is_among same p.interfaces out ≡ true → local src p.addresses ≡ true → SoundFacts same (times_arp same) more
-    unfolding awaiting binds_locally sends_locally covers_arp founds_routes
-    awaiting-facts own here = record {
-      address_names = s.address_names;
-      route_names = s.route_names;
-      arp_names = s.arp_names;
-      ping_names = of_pings (is_among same p.interfaces) more named;
-      gram_names = s.gram_names;
-      bound = s.bound;
-      sources = all_push (λ (g : PingOf N). local g.src p.addresses) ping p.pings.awaited s.sources here;
-      owned = owned;
-      pings_timed = pings_timed;
-      entries_apart = s.entries_apart;
-      arp_timed = arp_timed;
-      arp_covered = s.arp_covered;
-      founded = s.founded;
-      arms_given = arms_given;
-      arms_apart = arms_apart;
-      variables = s.variables;
-      addresses = s.addresses;
-      routes = s.routes;
-      arp = s.arp;
-      sockets = s.sockets;
-      timers = timers;
-      pings = pings;
-      loopback = s.loopback;
-      ident = s.ident;
-    }
-      where
-        n : NamesPass (is_among same p.interfaces) p
-        n = own_names same (times_arp same) p s
-
-        named : NamesPass (is_among same p.interfaces) more
-        named = record { addresses = n.addresses; routes = n.routes; arp = n.arp; pings = all_push (λ (g : PingOf N). is_among same p.interfaces g.out) ping p.pings.awaited n.pings own; grams = n.grams }
+    awaiting-kept : is_among same p.interfaces out ≡ true → local src p.addresses ≡ true → is_sound_parts same more ≡ true
+    unfolding awaiting sends_locally covers_arp
+    awaiting-kept own here =
+        let n = own_names same (times_arp same) p s in
+        timing-sound same p more (times_arp same) (times_arp same) s
+        (record { addresses = n.addresses; routes = n.routes; arp = n.arp; pings = all_push (λ (g : PingOf N). is_among same p.interfaces g.out) ping p.pings.awaited n.pings own; grams = n.grams })
+        (all_push (λ (g : PingOf N). local g.src p.addresses) ping p.pings.awaited s.sources here)
+        owned pings_timed s.entries_apart arp_timed s.arp_covered arms_given arms_apart s.arp timers pings
 
   -- the interface stands there, and the source is an address of the stack
   pub awaiting-sound : is_among same p.interfaces out ≡ true → local src p.addresses ≡ true → is_sound_parts same p ≡ true → is_sound_parts same (awaiting now src dst out p) ≡ true
-  awaiting-sound own here sound = sound_from_facts same (times_arp same) more (awaiting-facts (facts_from_sound same (times_arp same) p sound) own here)
+  awaiting-sound own here sound = awaiting-kept (facts_from_sound same (times_arp same) p sound) own here

@@ -22,7 +22,9 @@ use Rattle.vn_rules.proofs.Kept.{IsIn, all_filtered, all_filtered_in, all_passed
 use Rattle.vn_rules.specs.Interfaces.{is_among}
 use Rattle.vn_rules.proofs.ListTests.{all_filter, all_weaker, distinct_filter}
 use Rattle.vn_rules.proofs.Named.{NamesPass, own_names, of_addresses, of_routes, of_arp, of_pings, of_grams}
-use Rattle.vn_rules.proofs.SoundFacts.{SoundFacts, facts_from_sound, sound_from_facts}
+use Rattle.vn_rules.proofs.SoundEdits.{timing-sound}
+use Rattle.vn_rules.proofs.SoundFacts.{SoundFacts, facts_from_sound}
+use Rattle.vn_rules.proofs.TimerEdits.{are_timers-kept}
 
 module _ {N : Type 0} (gone : PingOf N → Bool) (p : PartsOf N) where
   abbrev stays : PingOf N → Bool
@@ -143,43 +145,22 @@ module _ {N : Type 0} (same : N → N → Bool) (gone : PingOf N → Bool) (p : 
           → (count_by (is_timer_at same a) (filter (timer_stays gone p) timers_of) == timers_wanted same a.state) ≡ true
       by a right = ap (λ n. n == timers_wanted same a.state) (count_filter (is_timer_at same a) (timer_stays gone p) timers_of (untimed a)) ∙ right
 
-  abbrev own : IfOf N → Bool
-  own = is_among same p.interfaces
-
-  named : NamesPass own (without_pings gone p)
-  named = without_pings-names gone p own (own_names same (times_arp same) p s)
-
-  without_pings-facts : SoundFacts same (times_arp same) (without_pings gone p)
-  unfolding without_pings binds_locally sends_locally covers_arp founds_routes gave_arms has_distinct_arms are_timers are_pings
-  without_pings-facts = record {
-    address_names = of_addresses own (without_pings gone p) named;
-    route_names = of_routes own (without_pings gone p) named;
-    arp_names = of_arp own (without_pings gone p) named;
-    ping_names = of_pings own (without_pings gone p) named;
-    gram_names = of_grams own (without_pings gone p) named;
-    bound = s.bound;
-    sources = all_filter (stays gone p) (λ (g : PingOf N). local g.src p.addresses) pings_of s.sources;
-    owned = owned;
-    pings_timed = pings_timed;
-    entries_apart = s.entries_apart;
-    arp_timed = arp_timed;
-    arp_covered = s.arp_covered;
-    founded = s.founded;
-    arms_given = all_filter (timer_stays gone p) _ timers_of s.arms_given;
-    arms_apart = distinct_filter (stays gone p) _ pings_of s.arms_apart;
-    variables = s.variables;
-    addresses = s.addresses;
-    routes = s.routes;
-    arp = s.arp;
-    sockets = s.sockets;
-    timers = let t = and_parts (are_rising turn_cmp (keys_of timers_of)) _ s.timers in and_from _ _ (rising_kept turn_cmp (timer_stays gone p) timers_of t.0) (distinct_filter (timer_stays gone p) _ timers_of t.1);
-    pings = let g = and_parts (has_16_bits p.pings.next) _ s.pings in and_from _ _ g.0 (all_filter (stays gone p) _ pings_of g.1);
-    loopback = s.loopback;
-    ident = s.ident;
-  }
+  without_pings-kept : is_sound_parts same (without_pings gone p) ≡ true
+  unfolding without_pings sends_locally covers_arp gave_arms has_distinct_arms are_pings
+  without_pings-kept =
+      let g = and_parts (has_16_bits p.pings.next) _ s.pings in
+      timing-sound same p (without_pings gone p) (times_arp same) (times_arp same) s
+      (without_pings-names gone p (is_among same p.interfaces) (own_names same (times_arp same) p s))
+      (all_filter (stays gone p) (λ (g : PingOf N). local g.src p.addresses) pings_of s.sources)
+      owned pings_timed s.entries_apart arp_timed s.arp_covered
+      (all_filter (timer_stays gone p) _ timers_of s.arms_given)
+      (distinct_filter (stays gone p) _ pings_of s.arms_apart)
+      s.arp
+      (are_timers-kept (timer_stays gone p) p.timers s.timers)
+      (and_from _ _ g.0 (all_filter (stays gone p) _ pings_of g.1))
 
 pub without_pings-sound : {N : Type 0} (same : N → N → Bool) (gone : PingOf N → Bool) (p : PartsOf N) → is_sound_parts same p ≡ true → is_sound_parts same (without_pings gone p) ≡ true
-without_pings-sound same gone p sound = sound_from_facts same (times_arp same) (without_pings gone p) (without_pings-facts same gone p (facts_from_sound same (times_arp same) p sound))
+without_pings-sound same gone p sound = without_pings-kept same gone p (facts_from_sound same (times_arp same) p sound)
 
 -- ---- under other names of halves
 

@@ -5,7 +5,7 @@ use Rattle.vn_rules.specs.Interfaces.{is_among}
 use Rattle.vn_rules.specs.Orders.{are_addresses, are_routes, are_arp_entries, are_sockets, are_timers, are_pings}
 use Rattle.vn_rules.specs.Soundness.{binds_locally, sends_locally, times_pings, gave_arms, has_distinct_arms, owns_timers, times_arp, has_distinct_entries, covers_arp, founds_routes, is_sound_by, is_sound_parts}
 use Rattle.vn_rules.specs.Variables.{declarations, are_declared}
-use Rattle.vn_rules.proofs.Named.{NamesPass, of_addresses, of_routes, of_arp, of_pings, of_grams}
+use Rattle.vn_rules.proofs.Named.{NamesPass, own_names, of_addresses, of_routes, of_arp, of_pings, of_grams}
 use Rattle.vn_rules.proofs.SoundFacts.{SoundFacts, sound_from_facts}
 
 module _ {N : Type 0} (same : N → N → Bool) (p q : PartsOf N) where
@@ -33,11 +33,11 @@ module _ {N : Type 0} (same : N → N → Bool) (p q : PartsOf N) where
   timed = record p { arp = q.arp; timers = q.timers; pings = q.pings }
 
   -- by one test on the timers of ARP entries before, and another afterwards
-  pub timed-sound : (times others : PartsOf N → Bool) → SoundFacts same times p → NamesPass (is_among same p.interfaces) timed → sends_locally timed ≡ true
+  pub timing-sound : (times others : PartsOf N → Bool) → SoundFacts same times p → NamesPass (is_among same p.interfaces) timed → sends_locally timed ≡ true
       → owns_timers same timed ≡ true → times_pings timed ≡ true → has_distinct_entries same q.arp ≡ true → others timed ≡ true → covers_arp same timed ≡ true → gave_arms timed ≡ true
       → has_distinct_arms q.pings.awaited ≡ true → are_arp_entries q.arp ≡ true → are_timers q.timers ≡ true → are_pings q.pings ≡ true → is_sound_by same others timed ≡ true
   unfolding binds_locally founds_routes
-  timed-sound times others f named sources owned pinged entries entries_timed covered given arms arp timers pings =
+  timing-sound times others f named sources owned pinged entries entries_timed covered given arms arp timers pings =
       let own = is_among same p.interfaces in
       sound_from_facts same others timed (record {
         address_names = of_addresses own timed named; route_names = of_routes own timed named; arp_names = of_arp own timed named;
@@ -46,3 +46,8 @@ module _ {N : Type 0} (same : N → N → Bool) (p q : PartsOf N) where
         arp = arp; timers = timers; pings = pings;
         bound = f.bound; founded = f.founded; variables = f.variables; addresses = f.addresses; routes = f.routes; sockets = f.sockets; loopback = f.loopback; ident = f.ident;
       })
+
+-- by another test on the timers of ARP entries
+pub retimed : {N : Type 0} (same : N → N → Bool) (times others : PartsOf N → Bool) (p : PartsOf N) → SoundFacts same times p → others p ≡ true → is_sound_by same others p ≡ true
+retimed same times others p f timed =
+    timing-sound same p p times others f (own_names same times p f) f.sources f.owned f.pings_timed f.entries_apart timed f.arp_covered f.arms_given f.arms_apart f.arp f.timers f.pings

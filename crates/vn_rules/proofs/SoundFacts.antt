@@ -120,7 +120,3 @@ module _ {N : Type 0} (same : N → N → Bool) (times : PartsOf N → Bool) whe
       where
         both : {x y : Bool} → x ≡ true → y ≡ true → (x && y) ≡ true
         both {x} {y} left right = and_from x y left right
-
--- by another test on the timers of ARP entries
-pub retimed : {N : Type 0} (same : N → N → Bool) (times others : PartsOf N → Bool) (p : PartsOf N) → SoundFacts same times p → others p ≡ true → SoundFacts same others p
-retimed same times others p f timed = record { address_names = f.address_names; route_names = f.route_names; arp_names = f.arp_names; ping_names = f.ping_names; gram_names = f.gram_names; bound = f.bound; sources = f.sources; owned = f.owned; pings_timed = f.pings_timed; entries_apart = f.entries_apart; arp_timed = timed; arp_covered = f.arp_covered; founded = f.founded; arms_given = f.arms_given; arms_apart = f.arms_apart; variables = f.variables; addresses = f.addresses; routes = f.routes; arp = f.arp; sockets = f.sockets; timers = f.timers; pings = f.pings; loopback = f.loopback; ident = f.ident }

@@ -13,9 +13,11 @@ use Rattle.std.proofs.lemmas.List.Folds.{list_all-append}
 use Rattle.std.proofs.lemmas.List.Sums.{sum_by-append, sum_by-cons}
 use Rattle.vn_types.proofs.EntryLaws.{IsStrictlySortedBy-insert_entry}
 use Rattle.vn_rules.specs.declared.timer.TimerOf.{TimerOf}
-use Rattle.vn_rules.specs.Orders.{are_rising, are_distinct}
+use Rattle.vn_rules.specs.declared.timer.TimersOf.{TimersOf}
+use Rattle.vn_rules.specs.Orders.{are_rising, are_distinct, are_timers}
 use Rattle.vn_rules.specs.Timers.{Turn, turn_cmp, Timed}
-use Rattle.vn_rules.proofs.Kept.{all_passed, count_filter}
+use Rattle.vn_rules.proofs.Kept.{all_passed, count_filter, rising_kept}
+use Rattle.vn_rules.proofs.ListTests.{distinct_filter}
 use Rattle.vn_rules.proofs.OrderLaws.{IsStrictlySortedBy-from_rising, rising_from_sorted}
 use Rattle.vn_rules.proofs.TimerOrder.{turn_cmp_total}
 
@@ -100,3 +102,10 @@ module _ {N : Type 0} where
   pub rising-inserted : (at : Turn) (what : TimerOf N) (es : List (Timed N)) → are_rising turn_cmp (keys_of es) ≡ true → are_rising turn_cmp (keys_of (insert_entry turn_cmp es at what)) ≡ true
   rising-inserted at what es rising =
       rising_from_sorted turn_cmp _ (IsStrictlySortedBy-insert_entry turn_cmp turn_cmp_total at what es (IsStrictlySortedBy-from_rising turn_cmp (keys_of es) rising))
+
+  -- timers of which some are stopped stay in order
+  pub are_timers-kept : (keep : Timed N → Bool) (t : TimersOf N) → are_timers t ≡ true → are_timers (record t { standing = filter keep t.standing }) ≡ true
+  unfolding are_timers
+  are_timers-kept keep t right =
+      let parts = and_parts (are_rising turn_cmp (keys_of t.standing)) _ right in
+      and_from _ _ (rising_kept turn_cmp keep t.standing parts.0) (distinct_filter keep _ t.standing parts.1)
