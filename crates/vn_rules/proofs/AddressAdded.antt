@@ -26,10 +26,10 @@ use Rattle.vn_rules.specs.Networks.{network_of, lies_in, is_no_host, is_loopback
 use Rattle.vn_rules.specs.Orders.{are_distinct, are_addresses}
 use Rattle.vn_rules.specs.Renamed.{as_addr, renamed}
 use Rattle.vn_rules.specs.Routes.{Routed, is_link_on, route_at, can_link}
-use Rattle.vn_rules.specs.Soundness.{is_bound_locally, binds_locally, sends_locally, owns_timers, times_pings, times_arp, is_founded, covers_arp, founds_routes, gave_arms, is_sound_parts}
+use Rattle.vn_rules.specs.Soundness.{is_bound_locally, binds_locally, sends_locally, times_arp, is_founded, covers_arp, founds_routes, is_sound_parts}
 use Rattle.vn_rules.proofs.AddressLaws.{is_unfit-renamed, local-renamed, after_add-renamed, on_interface-renamed}
 use Rattle.vn_rules.proofs.ListTests.{all_weaker, all_push, distinct_push}
-use Rattle.vn_rules.proofs.Named.{NamesPass, own_names, of_addresses}
+use Rattle.vn_rules.proofs.Named.{NamesPass, own_names}
 use Rattle.vn_rules.proofs.NetworkLaws.{is_network-of}
 use Rattle.vn_rules.proofs.RouteAdded.{insert-sound}
 use Rattle.vn_rules.proofs.RouteLaws.{can_link-renamed, after_link-renamed}

@@ -20,11 +20,11 @@ use Rattle.vn_rules.specs.Pings.{is_from, without_pings}
 use Rattle.vn_rules.specs.Purge.{routes_without, is_uncovered, without_addr, without_found, dropped}
 use Rattle.vn_rules.specs.Routes.{Routed, covers}
 use Rattle.vn_rules.specs.Sockets.{is_ip, unbound_from}
-use Rattle.vn_rules.specs.Soundness.{is_bound_locally, binds_locally, sends_locally, owns_timers, times_pings, times_arp, covers_arp, founds_routes, gave_arms, is_sound_parts}
+use Rattle.vn_rules.specs.Soundness.{is_bound_locally, binds_locally, sends_locally, times_arp, covers_arp, founds_routes, is_sound_parts}
 use Rattle.vn_rules.specs.Timers.{Timed}
 use Rattle.vn_rules.proofs.Kept.{any_filter}
 use Rattle.vn_rules.proofs.ListTests.{all_filter, all_weaker, all_both, distinct_filter, none_filter}
-use Rattle.vn_rules.proofs.Named.{NamesPass, names_parts, names_from, own_names, of_addresses, of_routes, of_arp, of_pings, of_grams}
+use Rattle.vn_rules.proofs.Named.{NamesPass, names_parts, names_from, own_names}
 use Rattle.vn_rules.proofs.SoundEdits.{tabled-sound}
 use Rattle.vn_rules.proofs.SoundFacts.{SoundFacts, facts_from_sound}
 use Rattle.vn_rules.proofs.PingRemoval.{without_pings-names, without_pings-passed, without_pings-sound}

@@ -3,7 +3,6 @@ use Rattle.std.proofs.Common.{◌≡◌, Bool, true, false, cond, ◌==◌, Opti
 use Rattle.std.specs.Bool.{Decides}
 use Rattle.std.specs.List.{list_any, count_by}
 use Rattle.std.proofs.lemmas.Bool.{both_ways, false_from_ne_true, eqb-true}
-use Rattle.std.proofs.lemmas.List.Folds.{list_all-map}
 use Rattle.vn_types.specs.declared.address.Ip4.{Ip4}
 use Rattle.vn_types.specs.declared.interface.IfOf.TheVariants.{Half}
 use Rattle.vn_rules.specs.declared.arp.ArpEntryOf.{ArpEntryOf}
@@ -14,7 +13,7 @@ use Rattle.vn_rules.specs.Arp.{is_timer_where, is_place, is_entry_at, entry_of, 
 use Rattle.vn_rules.specs.Interfaces.{is_among}
 use Rattle.vn_rules.specs.Orders.{is_right_in, are_arp_entries, are_timers}
 use Rattle.vn_rules.specs.Routes.{covers}
-use Rattle.vn_rules.specs.Soundness.{sends_locally, binds_locally, times_pings, gave_arms, has_owner, owns_timers, timers_wanted, times_arp, times_arp_but, covers_arp, founds_routes, is_sound_parts, is_sound_but}
+use Rattle.vn_rules.specs.Soundness.{sends_locally, times_pings, gave_arms, has_owner, owns_timers, timers_wanted, times_arp, times_arp_but, covers_arp, is_sound_parts, is_sound_but}
 use Rattle.vn_rules.specs.Timers.{Turn, Timed}
 use Rattle.vn_rules.proofs.ArpPlaces.{AtPlace, place_from_test, test_from_place, put, all_put, any_put, distinct_put}
 use Rattle.vn_rules.proofs.ListTests.{absent-none, none_weaker, find_passes, find_all}
@@ -108,7 +107,10 @@ module _ {N : Type 0} (same : N → N → Bool) (decides : (g h : N) → Decides
           let n = own_names same times p f in
           timing-sound same p with_put times (times_arp same) f
           (record {
-            addresses = n.addresses; routes = n.routes; pings = n.pings; grams = n.grams;
+            addresses = n.addresses;
+            routes = n.routes;
+            pings = n.pings;
+            grams = n.grams;
             arp = all_put same decides half ip t (λ e. is_among same p.interfaces (Half e.half)) (λ e. is_among same p.interfaces (Half e.half)) (λ e is apart. is) (ap (λ h. is_among same p.interfaces (Half h)) here.halves ∙ among) p.arp n.arp;
           })
           f.sources owned pings

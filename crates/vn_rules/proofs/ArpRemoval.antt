@@ -1,9 +1,8 @@
 -- ARP entries go with their timers: nothing new is named, and the parts stay sound.
-use Rattle.std.proofs.Common.{◌≡◌, ℕ, Bool, true, false, not, ◌||◌, ◌==◌, List, refl, sym, ap, ◌∙◌}
+use Rattle.std.proofs.Common.{◌≡◌, ℕ, Bool, true, false, not, ◌||◌, ◌==◌, refl, sym, ap, ◌∙◌}
 use Rattle.std.specs.List.{list_all, count_by, filter}
 use Rattle.std.specs.Bool.{Decides}
-use Rattle.std.specs.Map.{keys_of}
-use Rattle.std.proofs.lemmas.Bool.{or_right, and_parts, and_from, both_ways, not-true, not-false, false_from_ne_true, false≢true, eqb-true}
+use Rattle.std.proofs.lemmas.Bool.{or_right, and_parts, both_ways, not-true, not-false, false_from_ne_true, false≢true, eqb-true}
 use Rattle.vn_types.specs.declared.address.Ip4.{Ip4}
 use Rattle.vn_types.specs.declared.interface.IfOf.{IfOf}
 use Rattle.vn_types.specs.declared.interface.IfOf.TheVariants.{Half}
@@ -12,14 +11,14 @@ use Rattle.vn_rules.specs.declared.ping.PingOf.{PingOf}
 use Rattle.vn_rules.specs.declared.timer.TimerOf.TheVariants.{Arp, Ping}
 use Rattle.vn_rules.specs.declared.parts.PartsOf.{PartsOf}
 use Rattle.vn_rules.specs.Arp.{is_timer_at, is_timer_where, without_entries}
-use Rattle.vn_rules.specs.Orders.{are_arp_entries, are_timers, are_rising}
+use Rattle.vn_rules.specs.Orders.{are_arp_entries}
 use Rattle.vn_rules.specs.Pings.{is_timer_for}
-use Rattle.vn_rules.specs.Soundness.{is_sound_parts, binds_locally, sends_locally, founds_routes, has_owner, owns_timers, times_pings, times_arp, timers_wanted, gave_arms, has_distinct_entries, covers_arp}
-use Rattle.vn_rules.specs.Timers.{Timed, turn_cmp}
-use Rattle.vn_rules.proofs.Kept.{all_filtered, all_passed, any_filter, count_filter, rising_kept}
+use Rattle.vn_rules.specs.Soundness.{is_sound_parts, sends_locally, has_owner, owns_timers, times_pings, times_arp, timers_wanted, gave_arms, has_distinct_entries, covers_arp}
+use Rattle.vn_rules.specs.Timers.{Timed}
+use Rattle.vn_rules.proofs.Kept.{all_filtered, all_passed, any_filter, count_filter}
 use Rattle.vn_rules.specs.Interfaces.{is_among}
 use Rattle.vn_rules.proofs.ListTests.{all_filter, all_weaker, distinct_filter}
-use Rattle.vn_rules.proofs.Named.{NamesPass, own_names, of_addresses, of_routes, of_arp, of_pings, of_grams}
+use Rattle.vn_rules.proofs.Named.{NamesPass, own_names}
 use Rattle.vn_rules.proofs.SoundEdits.{timing-sound}
 use Rattle.vn_rules.proofs.SoundFacts.{SoundFacts, facts_from_sound}
 use Rattle.vn_rules.proofs.TimerEdits.{are_timers-kept}

@@ -2,7 +2,6 @@
 use Rattle.std.proofs.Common.{◌≡◌, ℕ, ◌+◌, Bool, true, false, cond, ◌||◌, ◌==◌, length, Option, Some, None, refl, sym, ap, ◌∙◌, arith}
 use Rattle.std.specs.Bool.{Decides}
 use Rattle.std.specs.Prelude.{nat_lt, nat_le, is_none, unwrap_or}
-use Rattle.std.specs.List.{count_by}
 use Rattle.std.specs.Option.{option_map_or}
 use Rattle.std.proofs.lemmas.Bool.{and_parts, and_from, or_left, or_right, ltb-true, lt-ltb, le-leb}
 use Rattle.std.proofs.lemmas.List.Folds.{list_all-map}
@@ -14,12 +13,12 @@ use Rattle.vn_rules.specs.declared.arp.ArpState.{ArpState}
 use Rattle.vn_rules.specs.declared.arp.ArpState.TheVariants.{Incomplete, Learnt, Static, Down}
 use Rattle.vn_rules.specs.declared.arp.TheConstants.{HELD_MAX, REQUESTS_MAX}
 use Rattle.vn_rules.specs.declared.parts.PartsOf.{PartsOf}
-use Rattle.vn_rules.specs.Arp.{new_entry, without_entries, is_place, is_entry_at, entry_of, is_timer_at}
+use Rattle.vn_rules.specs.Arp.{new_entry, without_entries, is_place, is_entry_at, entry_of}
 use Rattle.vn_rules.specs.Interfaces.{is_among}
 use Rattle.vn_rules.specs.Orders.{is_right_in, are_arp_entries}
 use Rattle.vn_rules.specs.Resolution.{request_time, down_time, Ask, GivesUp, turn_in, turn_of, asked, given_up, turned, after_turn, after_static, after_arp_set, after_arp_delete}
 use Rattle.vn_rules.specs.Routes.{covers, gateway_half}
-use Rattle.vn_rules.specs.Soundness.{timers_wanted, times_arp, times_arp_but, covers_arp, is_sound_parts, is_sound_but}
+use Rattle.vn_rules.specs.Soundness.{timers_wanted, times_arp_but, covers_arp, is_sound_parts, is_sound_but}
 use Rattle.vn_rules.proofs.ArpFacts.{has_but, has_own, own-apart}
 use Rattle.vn_rules.proofs.ArpKept.{absent-but, after_static-sound, from_base, timed_entry-sound}
 use Rattle.vn_rules.proofs.ArpRemoval.{without_entries-retimed, without_entries-sound}

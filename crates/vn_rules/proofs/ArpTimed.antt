@@ -19,12 +19,12 @@ use Rattle.vn_rules.specs.Orders.{are_rising, is_right_in, are_timers}
 use Rattle.vn_rules.specs.Pings.{is_timer_for}
 use Rattle.vn_rules.specs.Resolution.{untimed}
 use Rattle.vn_rules.specs.Routes.{covers}
-use Rattle.vn_rules.specs.Soundness.{sends_locally, binds_locally, times_pings, gave_arms, has_owner, owns_timers, timers_wanted, times_arp, times_arp_but, covers_arp, founds_routes, is_sound_parts, is_sound_but}
+use Rattle.vn_rules.specs.Soundness.{sends_locally, times_pings, gave_arms, has_owner, owns_timers, timers_wanted, times_arp, times_arp_but, covers_arp, is_sound_parts, is_sound_but}
 use Rattle.vn_rules.specs.Timers.{turn_cmp, Timed, after_arm}
 use Rattle.vn_rules.proofs.ArpFacts.{at_place, timers-there, timers-apart, new-there, new-apart, has_but, has_own, own-apart, no_timer, with_put, owner-put, put_sound}
 use Rattle.vn_rules.proofs.ArpPlaces.{all_put, any_put_here}
-use Rattle.vn_rules.proofs.Kept.{none_from_all, rising_kept}
-use Rattle.vn_rules.proofs.ListTests.{all_weaker, all_filter, distinct_filter, find_passes, find_all}
+use Rattle.vn_rules.proofs.Kept.{none_from_all}
+use Rattle.vn_rules.proofs.ListTests.{all_weaker, all_filter, find_passes, find_all}
 use Rattle.vn_rules.proofs.Named.{own_names}
 use Rattle.vn_rules.proofs.SoundEdits.{timing-sound}
 use Rattle.vn_rules.proofs.SoundFacts.{SoundFacts, facts_from_sound}

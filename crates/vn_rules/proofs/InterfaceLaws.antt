@@ -12,10 +12,10 @@ use Rattle.vn_types.proofs.InterfaceNames.{if_same-as_if, if_same-Decides}
 use Rattle.vn_types.proofs.ListMaps.{filter_map_same}
 use Rattle.vn_rules.specs.declared.parts.PartsOf.{PartsOf}
 use Rattle.vn_rules.specs.Interfaces.{named_ifs, is_among, with_interface, without_interface}
-use Rattle.vn_rules.specs.Soundness.{binds_locally, sends_locally, owns_timers, times_pings, times_arp, covers_arp, founds_routes, gave_arms, is_sound_parts}
+use Rattle.vn_rules.specs.Soundness.{binds_locally, sends_locally, times_arp, covers_arp, founds_routes, is_sound_parts}
 use Rattle.vn_rules.proofs.Kept.{IsIn, all_in, any_filter}
 use Rattle.vn_rules.proofs.ListTests.{all_weaker}
-use Rattle.vn_rules.proofs.Named.{names_parts, names_from, own_names, of_addresses, of_routes, of_arp, of_pings, of_grams}
+use Rattle.vn_rules.proofs.Named.{names_parts, names_from, own_names}
 use Rattle.vn_rules.specs.Purge.{purged}
 use Rattle.vn_rules.proofs.Purged.{purged-forgotten, purged-sound}
 use Rattle.vn_rules.proofs.SoundEdits.{tabled-sound}

@@ -27,6 +27,10 @@ module _ {N : Type 0} where
     pub grams : list_all (λ (s : SocketOf N). list_all (λ (g : GramOf N). t g.via) s.queue) p.sockets ≡ true
 
   module _ (t : IfOf N → Bool) where
+    -- sockets alone are changed
+    pub with_sockets-names : (p : PartsOf N) (ss : List (SocketOf N)) → NamesPass t p → list_all (λ (s : SocketOf N). list_all (λ (g : GramOf N). t g.via) s.queue) ss ≡ true → NamesPass t (record p { sockets = ss })
+    with_sockets-names p ss pass grams = record { addresses = pass.addresses; routes = pass.routes; arp = pass.arp; pings = pass.pings; grams = grams }
+
     pub all_queues : (ss : List (SocketOf N)) → list_all t (flat_map queue_ifs ss) ≡ list_all (λ (s : SocketOf N). list_all (λ (g : GramOf N). t g.via) s.queue) ss
     all_queues [] = refl
     all_queues (s ∷ ss) = list_all-append t (queue_ifs s) (flat_map queue_ifs ss) ∙ ap₂ ◌&&◌ (list_all-map t (λ (g : GramOf N). g.via) s.queue) (all_queues ss)

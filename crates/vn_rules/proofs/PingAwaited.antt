@@ -15,11 +15,11 @@ use Rattle.vn_rules.specs.Arp.{is_timer_at}
 use Rattle.vn_rules.specs.Interfaces.{is_among}
 use Rattle.vn_rules.specs.Orders.{are_timers, are_pings, has_16_bits, are_rising, are_distinct}
 use Rattle.vn_rules.specs.Pings.{reply_time, is_timer_for, next_ping, awaiting}
-use Rattle.vn_rules.specs.Soundness.{binds_locally, sends_locally, has_owner, owns_timers, times_pings, times_arp, timers_wanted, covers_arp, founds_routes, gave_arms, has_distinct_arms, is_sound_parts}
+use Rattle.vn_rules.specs.Soundness.{sends_locally, has_owner, owns_timers, times_pings, times_arp, timers_wanted, covers_arp, gave_arms, has_distinct_arms, is_sound_parts}
 use Rattle.vn_rules.specs.Timers.{Timed, turn_cmp}
 use Rattle.vn_rules.proofs.Kept.{from_any, any_from_count, none_from_all}
 use Rattle.vn_rules.proofs.ListTests.{all_weaker, all_both, all_push, distinct_push}
-use Rattle.vn_rules.proofs.Named.{NamesPass, own_names, of_pings}
+use Rattle.vn_rules.proofs.Named.{own_names}
 use Rattle.vn_rules.proofs.SoundEdits.{timing-sound}
 use Rattle.vn_rules.proofs.SoundFacts.{SoundFacts, facts_from_sound}
 use Rattle.vn_rules.proofs.TimerEdits.{Inserted, count_inserted, all_inserted, distinct_inserted, zero_from_all, insert_entry-Inserted, rising-inserted}

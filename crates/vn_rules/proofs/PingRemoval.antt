@@ -16,12 +16,12 @@ use Rattle.vn_rules.specs.Orders.{are_timers, are_pings, has_16_bits, are_rising
 use Rattle.vn_rules.specs.Pings.{is_timer_for, is_out_by, is_armed_by, without_pings}
 use Rattle.vn_rules.specs.Renamed.{as_ping, as_timed, renamed}
 use Rattle.vn_rules.specs.Addresses.{local}
-use Rattle.vn_rules.specs.Soundness.{is_sound_parts, binds_locally, sends_locally, covers_arp, founds_routes, has_owner, owns_timers, times_pings, times_arp, timers_wanted, gave_arms, has_distinct_arms}
+use Rattle.vn_rules.specs.Soundness.{is_sound_parts, sends_locally, covers_arp, has_owner, owns_timers, times_pings, times_arp, timers_wanted, gave_arms, has_distinct_arms}
 use Rattle.vn_rules.specs.Timers.{Timed, turn_cmp}
-use Rattle.vn_rules.proofs.Kept.{IsIn, all_filtered, all_filtered_in, all_passed, any_filter_in, any_weaker, any_from_count, from_any, count_filter, not_both, rising_kept}
+use Rattle.vn_rules.proofs.Kept.{IsIn, all_filtered, all_filtered_in, all_passed, any_filter_in, any_weaker, any_from_count, from_any, count_filter, not_both}
 use Rattle.vn_rules.specs.Interfaces.{is_among}
 use Rattle.vn_rules.proofs.ListTests.{all_filter, all_weaker, distinct_filter}
-use Rattle.vn_rules.proofs.Named.{NamesPass, own_names, of_addresses, of_routes, of_arp, of_pings, of_grams}
+use Rattle.vn_rules.proofs.Named.{NamesPass, own_names}
 use Rattle.vn_rules.proofs.SoundEdits.{timing-sound}
 use Rattle.vn_rules.proofs.SoundFacts.{SoundFacts, facts_from_sound}
 use Rattle.vn_rules.proofs.TimerEdits.{are_timers-kept}

@@ -21,11 +21,11 @@ use Rattle.vn_rules.specs.Pings.{is_out_by, without_pings}
 use Rattle.vn_rules.specs.Purge.{without_addr, without_addrs, without_names, purged}
 use Rattle.vn_rules.specs.Routes.{Routed, target_if, covers, after_purge_routes}
 use Rattle.vn_rules.specs.Sockets.{without_grams_by}
-use Rattle.vn_rules.specs.Soundness.{is_founded, binds_locally, sends_locally, owns_timers, times_pings, times_arp, covers_arp, founds_routes, gave_arms, is_sound_parts}
+use Rattle.vn_rules.specs.Soundness.{is_founded, binds_locally, sends_locally, times_arp, covers_arp, founds_routes, is_sound_parts}
 use Rattle.vn_rules.specs.Timers.{Timed}
 use Rattle.vn_rules.proofs.Kept.{IsIn, all_from_none, all_in, all_filtered, all_passed, any_filter, none_from_all}
 use Rattle.vn_rules.proofs.ListTests.{all_filter, all_weaker, all_both, none_filter}
-use Rattle.vn_rules.proofs.Named.{NamesPass, names_parts, names_from, own_names, of_addresses, of_routes, of_arp, of_pings, of_grams}
+use Rattle.vn_rules.proofs.Named.{NamesPass, names_parts, names_from, own_names}
 use Rattle.vn_rules.proofs.SoundEdits.{tabled-sound}
 use Rattle.vn_rules.proofs.SoundFacts.{SoundFacts, facts_from_sound}
 use Rattle.vn_rules.proofs.PingRemoval.{without_pings-names, without_pings-passed, without_pings-sound}

@@ -1,5 +1,5 @@
 -- Parts under other names: what they name is renamed, tests on names go through, and renamings compose.
-use Rattle.std.proofs.Common.{◌≡◌, Bool, ◌||◌, List, [], ◌∷◌, ◌++◌, map, refl, sym, ap, ap₂, ◌∙◌}
+use Rattle.std.proofs.Common.{◌≡◌, Bool, true, false, cond, ◌||◌, List, [], ◌∷◌, ◌++◌, map, refl, sym, ap, ap₂, ◌∙◌}
 use Rattle.std.specs.List.{flat_map}
 use Rattle.std.proofs.lemmas.List.{map-append}
 use Rattle.std.proofs.lemmas.Simd.{map-map}
@@ -21,6 +21,11 @@ use Rattle.vn_rules.specs.Routes.{Routed, target_if}
 use Rattle.vn_rules.specs.Interfaces.{queue_ifs, named_ifs, is_among, is_timer_of}
 use Rattle.vn_rules.specs.Construction.{constructed_parts}
 use Rattle.vn_rules.specs.Renamed.{as_addr, as_target, as_routed, as_arp, as_ping, as_gram, as_socket, as_timer, as_timed, renamed}
+
+-- of two that are renamed the chosen one is renamed
+pub cond-renamed : {A B : Type 0} (f : A → B) (x y : A) (b : Bool) → cond b (f x) (f y) ≡ f (cond b x y)
+cond-renamed f x y true = refl
+cond-renamed f x y false = refl
 
 -- two ways round a square of functions
 module _ {A B C D : Type 0} (f : A → B) (p : A → C) (q : B → D) (h : C → D) (same : (x : A) → q (f x) ≡ h (p x)) where

@@ -26,10 +26,10 @@ use Rattle.vn_rules.specs.Interfaces.{is_among}
 use Rattle.vn_rules.specs.Networks.{lies_in, is_network}
 use Rattle.vn_rules.specs.Orders.{are_routes}
 use Rattle.vn_rules.specs.Routes.{Routed, prefix_cmp, target_if, is_link, is_link_on, covers, covers_ip, longer, longest, longest_among, route_at, half_in, gateway_half, gateway_refusal, after_gateway, with_gateway, has_gateway, after_delete}
-use Rattle.vn_rules.specs.Soundness.{binds_locally, sends_locally, owns_timers, times_pings, times_arp, is_founded, covers_arp, founds_routes, gave_arms, is_sound_parts}
+use Rattle.vn_rules.specs.Soundness.{binds_locally, sends_locally, times_arp, is_founded, covers_arp, founds_routes, is_sound_parts}
 use Rattle.vn_rules.proofs.Kept.{all_filtered, all_from_none, from_any}
 use Rattle.vn_rules.proofs.ListTests.{all_weaker}
-use Rattle.vn_rules.proofs.Named.{NamesPass, own_names, of_routes}
+use Rattle.vn_rules.proofs.Named.{NamesPass, own_names}
 use Rattle.vn_rules.proofs.RouteEdits.{are_routes-insert, are_routes-remove}
 use Rattle.vn_rules.proofs.SoundEdits.{tabled-sound}
 use Rattle.vn_rules.proofs.SoundFacts.{SoundFacts, facts_from_sound}

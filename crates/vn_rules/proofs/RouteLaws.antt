@@ -1,5 +1,5 @@
 -- Routes under other names of halves: what is chosen, refused, added and deleted goes through a renaming.
-use Rattle.std.proofs.Common.{◌≡◌, Bool, true, false, cond, not, ◌&&◌, nat_lt, is_some, is_none, List, [], ◌∷◌, map, Option, Some, None, refl, ap, ap₂, ◌∙◌}
+use Rattle.std.proofs.Common.{◌≡◌, Bool, true, false, not, ◌&&◌, nat_lt, is_some, is_none, List, [], ◌∷◌, map, Option, Some, None, refl, ap, ap₂, ◌∙◌}
 use Rattle.std.specs.BTreeMap.{is_at}
 use Rattle.std.specs.List.{filter}
 use Rattle.std.specs.Option.{option_map, option_map_or}
@@ -18,7 +18,7 @@ use Rattle.vn_rules.specs.declared.route.TargetOf.TheVariants.{Link, Gateway}
 use Rattle.vn_rules.specs.Renamed.{as_target, as_routed}
 use Rattle.vn_rules.specs.Routes.{Routed, prefix_cmp, target_if, is_link, is_link_on, route_at, covers_ip, longer, longest, longest_among, lookup, covering_link, half_in, gateway_half, gateway_refusals, gateway_refusal, with_gateway, after_gateway, has_gateway, delete_refusals, delete_refusal, after_delete, after_link, can_link}
 use Rattle.vn_rules.proofs.EntryMaps.{insert_entry-mapped, remove_entry-mapped}
-use Rattle.vn_rules.proofs.Renaming.{target_if-renamed}
+use Rattle.vn_rules.proofs.Renaming.{cond-renamed, target_if-renamed}
 
 module _ {N M : Type 0} (r : N → M) where
   abbrev renames : List (Routed N) → List (Routed M)
@@ -37,13 +37,9 @@ module _ {N M : Type 0} (r : N → M) where
   longest-renamed [] = refl
   longest-renamed (e ∷ rs) = ap (λ o. Some (longer (as_routed r e) o)) (longest-renamed rs) ∙ ap Some (by (longest rs))
     where
-      test : (f : Routed N) (b : Bool) → cond b (as_routed r f) (as_routed r e) ≡ as_routed r (cond b f e)
-      test f true = refl
-      test f false = refl
-
       by : (o : Option (Routed N)) → longer (as_routed r e) (option_map (as_routed r) o) ≡ as_routed r (longer e o)
       by None = refl
-      by (Some f) = test f (nat_lt e.0.len f.0.len)
+      by (Some f) = cond-renamed (as_routed r) f e (nat_lt e.0.len f.0.len)
 
   longest_among-renamed : (t : TargetOf N → Bool) (u : TargetOf M → Bool) → ((x : TargetOf N) → u (as_target r x) ≡ t x) → (ip : Ip4) (rs : List (Routed N)) → longest_among u ip (renames rs) ≡ option_map (as_routed r) (longest_among t ip rs)
   longest_among-renamed t u same ip rs =

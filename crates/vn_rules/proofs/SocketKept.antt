@@ -22,7 +22,7 @@ use Rattle.vn_rules.specs.SocketRefusals.{open_refusals, bind_refusals, connect_
 use Rattle.vn_rules.specs.Soundness.{is_bound_locally, times_arp, is_sound_parts}
 use Rattle.vn_rules.proofs.ListTests.{none_weaker, find_passes, distinct_push, all_push, distinct_filter, all_filter}
 use Rattle.vn_rules.proofs.SocketEdits.{open_from_none, automatic-free, edited_right, found_right, found_apart}
-use Rattle.vn_rules.proofs.SocketSound.{is_right, AreRight, right_from_sound, sound_with_sockets}
+use Rattle.vn_rules.proofs.SocketSound.{is_right, right_from_sound, sound_with_sockets}
 use Rattle.vn_rules.proofs.SoundFacts.{are_own}
 
 -- ---- a socket by itself

@@ -1,5 +1,5 @@
 -- Sockets lose an address, or the datagrams that came by an interface: nothing new is named, the parts stay sound, and renaming goes through.
-use Rattle.std.proofs.Common.{◌≡◌, ℕ, Option, Some, Bool, true, false, cond, not, nat_le, length, List, [], ◌∷◌, map, None, refl, ap, ◌∙◌, arith, is_none, is_some, ◌&&◌, ◌||◌, sym}
+use Rattle.std.proofs.Common.{◌≡◌, ℕ, Option, Some, Bool, true, false, not, nat_le, length, List, [], ◌∷◌, map, None, refl, ap, ◌∙◌, arith, is_none, is_some, ◌&&◌, ◌||◌, sym}
 use Rattle.std.specs.List.{list_all, filter}
 use Rattle.std.specs.Str.{bytes_eq}
 use Rattle.std.proofs.lemmas.Bool.{and_parts, and_from, cond_both, leb-true, le-leb, false≢true}
@@ -23,8 +23,8 @@ use Rattle.vn_rules.specs.Interfaces.{queue_ifs, is_among}
 use Rattle.vn_rules.specs.Ports.{conflicts, are_in_conflict}
 use Rattle.vn_rules.proofs.Kept.{all_passed}
 use Rattle.vn_rules.proofs.ListTests.{all_filter, all_map_kept, distinct_map_same, distinct_weaker}
-use Rattle.vn_rules.proofs.Renaming.{map_square}
-use Rattle.vn_rules.proofs.Named.{NamesPass}
+use Rattle.vn_rules.proofs.Renaming.{cond-renamed, map_square}
+use Rattle.vn_rules.proofs.Named.{NamesPass, with_sockets-names}
 use Rattle.vn_rules.proofs.SoundFacts.{are_own}
 use Rattle.vn_rules.proofs.SocketSound.{is_right, AreRight, right_from_sound, sound_with_sockets, right_kept}
 
@@ -43,14 +43,9 @@ module _ {N : Type 0} (ip : Ip4) where
   module _ (p : PartsOf N) where
     pub unbound_from-names : (t : IfOf N → Bool) → NamesPass t p → NamesPass t (unbound_from ip p)
     unfolding unbound_from
-    unbound_from-names t pass = record {
-      addresses = pass.addresses;
-      routes = pass.routes;
-      arp = pass.arp;
-      pings = pass.pings;
-      grams = all_map_kept (unbound ip) (λ s. list_all (λ (g : GramOf N). t g.via) s.queue) (λ s. list_all (λ (g : GramOf N). t g.via) s.queue)
-          (λ s pass. ap (list_all (λ (g : GramOf N). t g.via)) (unbound_queue s) ∙ pass) p.sockets pass.grams;
-    }
+    unbound_from-names t pass = with_sockets-names t p (map (unbound ip) p.sockets) pass
+        (all_map_kept (unbound ip) (λ s. list_all (λ (g : GramOf N). t g.via) s.queue) (λ s. list_all (λ (g : GramOf N). t g.via) s.queue)
+        (λ s pass. ap (list_all (λ (g : GramOf N). t g.via)) (unbound_queue s) ∙ pass) p.sockets pass.grams)
 
     -- no socket has the address
     pub unbound_from-passed : list_all (λ (s : SocketOf N). not (is_ip ip s.ip)) (unbound_from ip p).sockets ≡ true
@@ -103,12 +98,8 @@ module _ {N M : Type 0} (r : N → M) (ip : Ip4) where
   unfolding unbound_from renamed
   unbound_from-renamed p i = record (renamed r p) { sockets = map_square (as_socket r) (unbound ip) (unbound ip) (as_socket r) one p.sockets i }
     where
-      by : (s : SocketOf N) (b : Bool) → cond b (loose ip (as_socket r s)) (as_socket r s) ≡ as_socket r (cond b (loose ip s) s)
-      by s true = refl
-      by s false = refl
-
       one : (s : SocketOf N) → unbound ip (as_socket r s) ≡ as_socket r (unbound ip s)
-      one s = by s (is_ip ip s.ip)
+      one s = cond-renamed (as_socket r) (loose ip s) s (is_ip ip s.ip)
 
 -- ---- datagrams of an interface
 
@@ -119,14 +110,9 @@ module _ {N : Type 0} (same : N → N → Bool) (via : IfOf N) where
   module _ (p : PartsOf N) where
     pub without_grams_by-names : (t : IfOf N → Bool) → NamesPass t p → NamesPass t (without_grams_by same via p)
     unfolding without_grams_by
-    without_grams_by-names t pass = record {
-      addresses = pass.addresses;
-      routes = pass.routes;
-      arp = pass.arp;
-      pings = pass.pings;
-      grams = all_map_kept (unheard same via) (λ s. list_all (λ (g : GramOf N). t g.via) s.queue) (λ s. list_all (λ (g : GramOf N). t g.via) s.queue)
-          (λ s pass. all_filter stays (λ (g : GramOf N). t g.via) s.queue pass) p.sockets pass.grams;
-    }
+    without_grams_by-names t pass = with_sockets-names t p (map (unheard same via) p.sockets) pass
+        (all_map_kept (unheard same via) (λ s. list_all (λ (g : GramOf N). t g.via) s.queue) (λ s. list_all (λ (g : GramOf N). t g.via) s.queue)
+        (λ s pass. all_filter stays (λ (g : GramOf N). t g.via) s.queue pass) p.sockets pass.grams)
 
     -- none of them is left
     pub without_grams_by-passed : list_all (λ (s : SocketOf N). list_all stays s.queue) (without_grams_by same via p).sockets ≡ true

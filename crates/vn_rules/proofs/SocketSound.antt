@@ -10,7 +10,7 @@ use Rattle.vn_rules.specs.Orders.{are_distinct, is_socket, are_sockets}
 use Rattle.vn_rules.specs.Ports.{are_in_conflict}
 use Rattle.vn_rules.specs.Soundness.{is_bound_locally, binds_locally, sends_locally, times_arp, covers_arp, founds_routes, is_sound_parts}
 use Rattle.vn_rules.proofs.ListTests.{all_weaker, all_map_kept, all_flat_map, distinct_map_same}
-use Rattle.vn_rules.proofs.Named.{all_queues, own_names}
+use Rattle.vn_rules.proofs.Named.{with_sockets-names, all_queues, own_names}
 use Rattle.vn_rules.proofs.SoundEdits.{tabled-sound}
 use Rattle.vn_rules.proofs.SoundFacts.{are_own, facts_from_sound}
 
@@ -48,10 +48,9 @@ module _ {N : Type 0} (same : N → N → Bool) where
     unfolding binds_locally sends_locally are_sockets covers_arp founds_routes
     sound_with_sockets sockets sound right =
         let f = facts_from_sound same (times_arp same) p sound in
-        let n = own_names same (times_arp same) p f in
         let heard : list_all (λ s. are_own same (times_arp same) p (queue_ifs s)) sockets ≡ true = all_weaker (is_right p) _ (λ s is. (and_parts _ (are_own same (times_arp same) p (queue_ifs s)) is).1) sockets right.each in
         tabled-sound same p (record p { sockets = sockets }) f
-        (record { addresses = n.addresses; routes = n.routes; arp = n.arp; pings = n.pings; grams = sym (all_queues (is_among same p.interfaces) sockets) ∙ all_flat_map (is_among same p.interfaces) queue_ifs sockets ∙ heard })
+        (with_sockets-names (is_among same p.interfaces) p sockets (own_names same (times_arp same) p f) (sym (all_queues (is_among same p.interfaces) sockets) ∙ all_flat_map (is_among same p.interfaces) queue_ifs sockets ∙ heard))
         (all_weaker (is_right p) _ (λ s is. (and_parts (is_socket s) _ (and_parts _ _ is).0).1) sockets right.each)
         f.sources f.arp_covered f.founded f.variables f.addresses f.routes
         (and_from _ _ (and_from _ _ right.names right.ports) (all_weaker (is_right p) is_socket (λ s is. (and_parts (is_socket s) _ (and_parts _ _ is).0).0) sockets right.each))

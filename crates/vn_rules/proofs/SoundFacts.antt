@@ -1,7 +1,7 @@
 -- The tests of soundness as a record, so that a rule shows anew those that it touches alone.
-use Rattle.std.proofs.Common.{◌≡◌, Bool, true, ◌&&◌, length, nat_le, List, ◌++◌, map, sym, ◌∙◌}
+use Rattle.std.proofs.Common.{◌≡◌, Bool, true, length, nat_le, List, ◌++◌, map, sym, ◌∙◌}
 use Rattle.std.specs.List.{list_all, flat_map}
-use Rattle.std.proofs.lemmas.Bool.{and_parts, and_from}
+use Rattle.std.proofs.lemmas.Bool.{and_parts}
 use Rattle.std.proofs.lemmas.List.Folds.{list_all-append}
 use Rattle.vn_types.specs.declared.interface.IfOf.{IfOf}
 use Rattle.vn_types.specs.declared.interface.IfOf.TheVariants.{Half}
@@ -50,9 +50,6 @@ module _ {N : Type 0} (same : N → N → Bool) (times : PartsOf N → Bool) whe
   module _ (p : PartsOf N) where
     split : (xs ys : List (IfOf N)) → are_own p (xs ++ ys) ≡ true → (are_own p xs ≡ true) × (are_own p ys ≡ true)
     split xs ys test = and_parts _ _ (sym (list_all-append (is_among same p.interfaces) xs ys) ∙ test)
-
-    joined : (xs ys : List (IfOf N)) → are_own p xs ≡ true → are_own p ys ≡ true → are_own p (xs ++ ys) ≡ true
-    joined xs ys left right = list_all-append (is_among same p.interfaces) xs ys ∙ and_from _ _ left right
 
     pub facts_from_sound : is_sound_by same times p ≡ true → SoundFacts p
     unfolding names_own named_ifs keeps_orders
@@ -106,17 +103,3 @@ module _ {N : Type 0} (same : N → N → Bool) (times : PartsOf N → Bool) whe
           loopback = o7.1;
           ident = o8.1;
         }
-
-    pub sound_from_facts : SoundFacts p → is_sound_by same times p ≡ true
-    unfolding names_own named_ifs keeps_orders
-    sound_from_facts f =
-        both (both (both (both (both
-        (joined _ _ (joined _ _ (joined _ _ (joined _ _ f.address_names f.route_names) f.arp_names) f.ping_names) f.gram_names)
-        f.bound)
-        f.sources)
-        (both f.owned f.pings_timed))
-        (both (both (both (both (both f.entries_apart f.arp_timed) f.arp_covered) f.founded) f.arms_given) f.arms_apart))
-        (both (both (both (both (both (both (both (both f.variables f.addresses) f.routes) f.arp) f.sockets) f.timers) f.pings) f.loopback) f.ident)
-      where
-        both : {x y : Bool} → x ≡ true → y ≡ true → (x && y) ≡ true
-        both {x} {y} left right = and_from x y left right

@@ -1,5 +1,5 @@
 -- Timers under other names of halves: what is armed, stopped and due goes through a renaming.
-use Rattle.std.proofs.Common.{◌≡◌, ℕ, ◌+◌, Bool, true, false, cond, not, ◌==◌, List, [], ◌∷◌, map, Option, Some, None, refl, ap, ap₂, ◌∙◌}
+use Rattle.std.proofs.Common.{◌≡◌, ℕ, ◌+◌, Bool, not, ◌==◌, List, [], ◌∷◌, map, Option, Some, None, refl, ap, ap₂, ◌∙◌}
 use Rattle.std.specs.List.{filter}
 use Rattle.std.specs.Option.{option_map}
 use Rattle.std.specs.Ordering.{is_lt}
@@ -12,7 +12,7 @@ use Rattle.vn_rules.specs.Interfaces.{is_timer_of}
 use Rattle.vn_rules.specs.Renamed.{as_timer, as_timed, as_timers}
 use Rattle.vn_rules.specs.Timers.{turn_cmp, Timed, no_timers, with_arm, after_arm, has_timer, without_timer, earlier, earliest, is_due, next_due, due, without_timed, after_due, soonest, lesser, least, times_without}
 use Rattle.vn_rules.proofs.EntryMaps.{insert_entry-mapped, remove_entry-mapped}
-use Rattle.vn_rules.proofs.Renaming.{is_timer_of-renamed}
+use Rattle.vn_rules.proofs.Renaming.{cond-renamed, is_timer_of-renamed}
 
 module _ {N M : Type 0} (r : N → M) where
   pub no_timers-renamed : as_timers r no_timers ≡ no_timers
@@ -43,13 +43,9 @@ module _ {N M : Type 0} (r : N → M) where
   earliest-renamed [] = refl
   earliest-renamed (e ∷ es) = ap Some (ap (earlier (as_timed r e)) (earliest-renamed es) ∙ by (earliest es))
     where
-      by_test : (f : Timed N) (b : Bool) → cond b (as_timed r f) (as_timed r e) ≡ as_timed r (cond b f e)
-      by_test f true = refl
-      by_test f false = refl
-
       by : (o : Option (Timed N)) → earlier (as_timed r e) (option_map (as_timed r) o) ≡ as_timed r (earlier e o)
       by None = refl
-      by (Some f) = by_test f (is_lt (turn_cmp f.0 e.0))
+      by (Some f) = cond-renamed (as_timed r) f e (is_lt (turn_cmp f.0 e.0))
 
   next_due-renamed : (now : ℕ) (t : TimersOf N) → next_due now (as_timers r t) ≡ option_map (as_timed r) (next_due now t)
   next_due-renamed now t = ap earliest (filter_map_same (as_timed r) (is_due now) (is_due now) (λ e. refl) t.standing) ∙ earliest-renamed (filter (is_due now) t.standing)
