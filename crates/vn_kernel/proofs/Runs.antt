@@ -10,7 +10,7 @@ use Rattle.vn_cells.specs.commands.Jails.{construct}
 use Rattle.vn_cells.specs.machine.Step.{opening, run, run_from, step}
 use Rattle.vn_laws.proofs.Cleaned.{run-last}
 use Rattle.vn_cells.specs.declared.event.TheConstants.{EVENTS_MAX}
-use Rattle.vn_cells.specs.machine.Events.{IsValid, IsValidEvent, is_valid_event}
+use Rattle.vn_cells.specs.machine.Events.{IsBuilt, IsValid, IsValidEvent, is_built, is_valid_event}
 use Rattle.vn_kernel.specs.Machines.{IsKept, IsRun, kept}
 use Rattle.vn_kernel.specs.Worlds.{empty}
 use Rattle.vn_cells.specs.declared.event.Event.{Event}
@@ -49,13 +49,17 @@ length_snoc (e ∷ es) event = ap suc (length_snoc es event)
 valid_snoc : (events : List Event) (event : Event) → IsValid events → IsValidEvent event → IsValid (events ++ event ∷ [])
 valid_snoc events event valid more = list_all-append is_valid_event events (event ∷ []) ∙ grind (arith, valid, more)
 
+built_snoc : (events : List Event) (event : Event) → IsBuilt events → is_built event ≡ true → IsBuilt (events ++ event ∷ [])
+built_snoc events event built more = list_all-append is_built events (event ∷ []) ∙ grind (arith, built, more)
+
 -- after one event more
 pub still_kept : (spent : Bool) (w after : World) (events now : List Event) (event : Event) (count : ℕ) → spent ≡ false → IsKept (kept spent w) events
-    → after ≡ step w event → now ≡ events ++ event ∷ [] → count ≡ length events → count < EVENTS_MAX → IsValidEvent event → IsKept (Some after) now
-still_kept spent w after events now event count is k moved put_is counted few more = record {
+    → after ≡ step w event → now ≡ events ++ event ∷ [] → count ≡ length events → count < EVENTS_MAX → IsValidEvent event → is_built event ≡ true → IsKept (Some after) now
+still_kept spent w after events now event count is k moved put_is counted few more built = record {
   ran = still_run spent w after events now event is k.ran moved put_is;
   short = rw (put_is) (grind (arith, length_snoc events event));
   valid = subst IsValid (sym put_is) (valid_snoc events event k.valid more);
+  built = subst IsBuilt (sym put_is) (built_snoc events event k.built built);
 }
 
 pub none_kept : (w : World) (events : List Event) → w ≡ run events → events ≡ [] → IsKept (Some w) events
@@ -63,4 +67,5 @@ none_kept w events ran none = record {
   ran = ran;
   short = rw (none) (omega arith);
   valid = rw (none) refl;
+  built = rw (none) refl;
 }

@@ -2,7 +2,7 @@
 use Rattle.std.specs.Prelude.{◌≡◌, ◌≤◌, ℕ, Bool, true, false, List, [], ◌∷◌, ◌++◌, length, Option, Some, None, option_map, is_some}
 use Rattle.vn_cells.specs.declared.event.Event.{Event}
 use Rattle.vn_cells.specs.declared.world.World.{World}
-use Rattle.vn_cells.specs.machine.Events.{IsValid}
+use Rattle.vn_cells.specs.machine.Events.{IsBuilt, IsValid}
 use Rattle.vn_cells.specs.machine.Step.{opening, run, step}
 use Rattle.vn_cells.specs.declared.event.TheConstants.{EVENTS_MAX}
 
@@ -55,3 +55,5 @@ pub record IsKept (world : Option World) (events : List Event) : Type 0 where
   pub short : length events ≤ EVENTS_MAX
   -- each of them could happen
   pub valid : IsValid events
+  -- and is one that the program runs
+  pub built : IsBuilt events

@@ -11,7 +11,7 @@ use crate::state::State;
 use std::alloc::Global;
 use std::marker::Model;
 use vn_cells::{EVENTS_MAX, Event, History, Report};
-use vn_laws::law_of_clean_histories;
+use vn_laws::{law_of_clean_histories, law_of_unread_histories};
 use vn_types::{NoMemory, Path};
 
 /// Why an event could not happen.
@@ -112,6 +112,7 @@ impl Kernel {
         ensures standing { OnOk result (is_some self.world ≡ true) }
     {
         law_of_clean_histories();
+        law_of_unread_histories();
         let Kernel {
             state,
             history,

@@ -1,5 +1,5 @@
 -- The texts of some histories of pairs, by computation.
-use Rattle.std.proofs.Common.{◌≡◌, refl, [], ◌∷◌, ◌++◌}
+use Rattle.std.proofs.Common.{◌≡◌, refl, [], ◌∷◌, ◌++◌, ◌∙◌}
 use Rattle.std.specs.Fmt.{digits}
 use Rattle.vn_types.specs.InterfaceWords.{unit_side_text, ifname_text}
 use Rattle.vn_types.specs.Paths.{joined, path_cmp, path_text, path_eq, key_cmp, key_eq, above, is_under}
@@ -21,19 +21,33 @@ use Rattle.vn_cells.specs.commands.Pairs.{made_pair, unmade, told_lowest}
 use Rattle.vn_cells.specs.commands.Removal.{sent_home, without_pairs, run_down, torn_down, killed, destroyed_all}
 use Rattle.vn_cells.specs.commands.Taken.{is_reserved, is_taken, is_unit_free, first_unit, lowest_free}
 use Rattle.vn_cells.specs.texts.Text.{command_text, outcome_text, what_text, section_text, sections_text, event_text, history_text, text}
+use Rattle.vn_laws.specs.Versions.{is_command}
+use Rattle.vn_laws.proofs.RowTexts.{unread_text, unread_is}
 use Rattle.vn_laws.specs.WorkedRows.{two_pairs, taken, lent, removes, two_pairs_text, taken_text, removed_text, ifs_lent, ifs_home}
 
+two_pairs_unread : unread_text two_pairs ≡ two_pairs_text
+unfolding unread_text sections_text section_text what_text outcome_text command_text history_text event_text path_text digits unit_side_text ifname_text run_from step commanded ran_by reach far_rule answer_by any_full created edit_stack each_stack stack_at pair_at add_pair drop_pair each_pair find put each path_cmp path_eq key_cmp key_eq half_eq joined above is_under interface_named is_reserved is_taken is_unit_free first_unit lowest_free told_lowest made_pair unmade moved moved_on purged without_addr without_names without_entries without_pings without_grams_by sent_home without_pairs run_down torn_down killed destroyed_all
+two_pairs_unread = refl
+
 pub two_pairs_is : text two_pairs ≡ two_pairs_text
-unfolding text sections_text section_text what_text outcome_text command_text history_text event_text path_text digits unit_side_text ifname_text run_from step commanded ran_by reach far_rule answer_by any_full created edit_stack each_stack stack_at pair_at add_pair drop_pair each_pair find put each path_cmp path_eq key_cmp key_eq half_eq joined above is_under interface_named is_reserved is_taken is_unit_free first_unit lowest_free told_lowest made_pair unmade moved moved_on purged without_addr without_names without_entries without_pings without_grams_by sent_home without_pairs run_down torn_down killed destroyed_all
-two_pairs_is = refl
+unfolding is_command
+two_pairs_is = unread_is two_pairs refl ∙ two_pairs_unread
+
+taken_unread : unread_text taken ≡ taken_text
+unfolding unread_text sections_text section_text what_text outcome_text command_text history_text event_text path_text digits unit_side_text ifname_text run_from step commanded ran_by reach far_rule answer_by any_full created edit_stack each_stack stack_at pair_at add_pair drop_pair each_pair find put each path_cmp path_eq key_cmp key_eq half_eq joined above is_under interface_named is_reserved is_taken is_unit_free first_unit lowest_free told_lowest made_pair unmade moved moved_on purged without_addr without_names without_entries without_pings without_grams_by sent_home without_pairs run_down torn_down killed destroyed_all
+taken_unread = refl
 
 pub taken_is : text taken ≡ taken_text
-unfolding text sections_text section_text what_text outcome_text command_text history_text event_text path_text digits unit_side_text ifname_text run_from step commanded ran_by reach far_rule answer_by any_full created edit_stack each_stack stack_at pair_at add_pair drop_pair each_pair find put each path_cmp path_eq key_cmp key_eq half_eq joined above is_under interface_named is_reserved is_taken is_unit_free first_unit lowest_free told_lowest made_pair unmade moved moved_on purged without_addr without_names without_entries without_pings without_grams_by sent_home without_pairs run_down torn_down killed destroyed_all
-taken_is = refl
+unfolding is_command
+taken_is = unread_is taken refl ∙ taken_unread
+
+removed_unread : unread_text (lent ++ removes ∷ []) ≡ removed_text
+unfolding unread_text sections_text section_text what_text outcome_text command_text history_text event_text path_text digits unit_side_text ifname_text run_from step commanded ran_by reach far_rule answer_by any_full created edit_stack each_stack stack_at pair_at add_pair drop_pair each_pair find put each path_cmp path_eq key_cmp key_eq half_eq joined above is_under interface_named is_reserved is_taken is_unit_free first_unit lowest_free told_lowest made_pair unmade moved moved_on purged without_addr without_names without_entries without_pings without_grams_by sent_home without_pairs run_down torn_down killed destroyed_all
+removed_unread = refl
 
 pub removed_is : text (lent ++ removes ∷ []) ≡ removed_text
-unfolding text sections_text section_text what_text outcome_text command_text history_text event_text path_text digits unit_side_text ifname_text run_from step commanded ran_by reach far_rule answer_by any_full created edit_stack each_stack stack_at pair_at add_pair drop_pair each_pair find put each path_cmp path_eq key_cmp key_eq half_eq joined above is_under interface_named is_reserved is_taken is_unit_free first_unit lowest_free told_lowest made_pair unmade moved moved_on purged without_addr without_names without_entries without_pings without_grams_by sent_home without_pairs run_down torn_down killed destroyed_all
-removed_is = refl
+unfolding is_command
+removed_is = unread_is (lent ++ removes ∷ []) refl ∙ removed_unread
 
 pub lent_is : ifs_of (stack_at (run lent) []) ≡ ifs_lent
 unfolding run_from step commanded ran_by reach far_rule answer_by any_full created edit_stack each_stack stack_at pair_at add_pair drop_pair each_pair find put each path_cmp path_eq key_cmp key_eq half_eq joined above is_under interface_named is_reserved is_taken is_unit_free first_unit lowest_free told_lowest made_pair unmade moved moved_on purged without_addr without_names without_entries without_pings without_grams_by sent_home without_pairs run_down torn_down killed destroyed_all

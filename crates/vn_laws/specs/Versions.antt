@@ -1,11 +1,17 @@
 -- How many versions are kept, by what was retired before each open reader was opened.
-use Rattle.std.specs.Prelude.{ℕ, ◌+◌, ◌-◌, Bool, true, ◌&&◌, List, [], ◌∷◌, map, Option, Some, None, if◌then◌else◌}
+use Rattle.std.specs.Prelude.{ℕ, ◌+◌, ◌-◌, Bool, true, false, ◌&&◌, List, [], ◌∷◌, map, Option, Some, None, if◌then◌else◌}
 use Rattle.vn_rules.specs.Timers.{lesser}
 use Rattle.vn_cells.specs.declared.event.Event.{Event}
+use Rattle.vn_cells.specs.declared.event.Event.TheVariants as event
 use Rattle.vn_cells.specs.declared.world.World.{World}
 use Rattle.vn_cells.specs.world.Names.{Path}
 use Rattle.vn_cells.specs.machine.Step.{step, run_from}
 use Rattle.vn_cells.specs.machine.Versions.{has_reader, readers_in, retired}
+
+-- whether an event is a command, which opens and closes no reader
+unfoldable pub is_command : Event → Bool
+is_command (event.Cmd lane path command) = true
+is_command _ = false
 
 -- whether a reader is open before each of the events; where it is so after the last too, it is by the same Open
 unfoldable pub stays_open : Path × ℕ → World → List Event → Bool

@@ -1,6 +1,5 @@
 -- A section without entries has no text.
 use Rattle.std.proofs.Common.{◌≡◌, List, [], ◌∷◌, ◌++◌, cond, map, refl, ap, ◌∙◌}
-use Rattle.std.specs.Fmt.{digits}
 use Rattle.std.specs.List.{filter, flat_map}
 use Rattle.vn_cells.specs.declared.event.Event.{Event}
 use Rattle.vn_cells.specs.declared.transcript.Entry.{Entry}
@@ -9,8 +8,9 @@ use Rattle.vn_cells.specs.declared.world.World.{World}
 use Rattle.vn_cells.specs.world.Names.{Path}
 use Rattle.vn_cells.specs.texts.Reports.{has_entry, report_of, section_of, sections_of}
 use Rattle.vn_cells.specs.machine.Step.{run}
-use Rattle.vn_cells.specs.texts.Text.{history_text, pool_line, section_text, sections_text, text}
-use Rattle.vn_text.specs.Whole.{pool_text, report_text, transcripts_text}
+use Rattle.vn_cells.specs.machine.Versions.{kept, open_readers}
+use Rattle.vn_cells.specs.texts.Text.{history_text, pool_text, section_text, sections_text, text}
+use Rattle.vn_text.specs.Whole.{report_text, transcripts_text}
 
 shown : (stacks : List (Path × Stack)) → flat_map (λ s. section_text s.path s.entries) (map section_of (filter (λ s. has_entry s.1.entries) stacks)) ≡ flat_map (λ s. section_text s.0 s.1.entries) stacks
 unfolding section_text
@@ -28,10 +28,7 @@ all_shown : (w : World) → flat_map (λ s. section_text s.path s.entries) (sect
 unfolding sections_of sections_text
 all_shown w = shown w.stacks
 
-none_open : pool_text 0 0 ≡ pool_line
-unfolding digits
-none_open = refl
-
 pub written_report : (events : List Event) → report_text (report_of events) ≡ text events
 unfolding report_text transcripts_text text
-written_report events = ap (λ t. t ++ pool_text 0 0 ++ history_text events) (all_shown (run events)) ∙ ap (λ t. sections_text (run events) ++ t ++ history_text events) none_open
+written_report events =
+    ap (λ t. t ++ pool_text (open_readers (run events)) (kept events) ++ history_text events) (all_shown (run events))

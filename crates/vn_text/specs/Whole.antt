@@ -1,13 +1,9 @@
 -- A report as text.
-use Rattle.std.specs.Prelude.{ℕ, List, ◌++◌, codes}
+use Rattle.std.specs.Prelude.{ℕ, List, ◌++◌}
 use Rattle.std.specs.List.{flat_map}
-use Rattle.std.specs.Fmt.{decimal}
 use Rattle.vn_cells.specs.declared.report.Report.{Report}
-use Rattle.vn_cells.specs.texts.Text.{history_text, line, section_text}
-
--- how many readers are open and how many table versions are kept for them
-abbrev pub pool_text : ℕ → ℕ → List ℕ
-pool_text opened kept = line (codes "== pool open " ++ decimal opened ++ codes " kept " ++ decimal kept)
+use Rattle.vn_cells.specs.texts.Text.{history_text, section_text}
+pub use Rattle.vn_cells.specs.texts.Text.{pool_text}
 
 -- the sections in their order, and the readers and versions
 unfoldable pub transcripts_text : Report → List ℕ

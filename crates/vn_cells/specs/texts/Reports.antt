@@ -9,6 +9,7 @@ use Rattle.vn_cells.specs.declared.world.Stack.{Stack}
 use Rattle.vn_cells.specs.declared.world.World.{World}
 use Rattle.vn_cells.specs.world.Names.{Path}
 use Rattle.vn_cells.specs.machine.Step.{run}
+use Rattle.vn_cells.specs.machine.Versions.{kept, open_readers}
 
 -- whether a transcript is not empty
 abbrev pub has_entry : List Entry → Bool
@@ -23,6 +24,11 @@ section_of s = record { path = s.0; entries = s.1.entries }
 unfoldable pub sections_of : World → List SectionText
 sections_of w = map section_of (filter (λ s. has_entry s.1.entries) w.stacks)
 
--- what the run of a history leaves; no built event opens a reader
+-- what the run of a history leaves
 abbrev pub report_of : List Event → Report
-report_of events = record { history = events; sections = sections_of (run events); opened = 0; kept = 0 }
+report_of events = record {
+  history = events;
+  sections = sections_of (run events);
+  opened = open_readers (run events);
+  kept = kept events;
+}

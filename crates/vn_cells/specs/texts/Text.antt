@@ -19,6 +19,7 @@ use Rattle.vn_cells.specs.declared.transcript.What.TheVariants as what
 use Rattle.vn_cells.specs.declared.world.World.{World}
 use Rattle.vn_cells.specs.world.Names.{Path}
 use Rattle.vn_cells.specs.machine.Step.{run}
+use Rattle.vn_cells.specs.machine.Versions.{kept, open_readers}
 unfoldable pub use Rattle.vn_cells.specs.texts.Programs.{command_text}
 pub use Rattle.vn_cells.specs.texts.Programs.{limit_text}
 
@@ -99,10 +100,12 @@ history_text events =
 
 -- ---- the whole
 
--- how many readers are open and how many versions are kept for them: no built event opens a reader
-abbrev pub pool_line : List ℕ
-pool_line = line (codes "== pool open 0 kept 0")
+-- how many readers are open, and how many versions of listings are kept for them
+abbrev pub pool_text : ℕ → ℕ → List ℕ
+pool_text opened kept = line (codes "== pool open " ++ decimal opened ++ codes " kept " ++ decimal kept)
 
 -- the text of a run
 unfoldable pub text : List Event → List ℕ
-text events = sections_text (run events) ++ pool_line ++ history_text events
+text events =
+    let w = run events in
+    sections_text w ++ pool_text (open_readers w) (kept events) ++ history_text events
