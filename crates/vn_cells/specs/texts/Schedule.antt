@@ -12,8 +12,10 @@ use Rattle.vn_cells.specs.declared.script.Part.TheVariants.{Phase, Settle, Sleep
 use Rattle.vn_cells.specs.declared.script.Script.{Script}
 use Rattle.vn_cells.specs.declared.world.World.{World}
 use Rattle.vn_cells.specs.world.Names.{Path}
+use Rattle.vn_cells.specs.machine.Deliveries.{settle_events}
 use Rattle.vn_cells.specs.machine.Local.{lines_at, open_refusal}
 use Rattle.vn_cells.specs.machine.Step.{opening, run_from}
+use Rattle.vn_cells.specs.machine.Timing.{sleep_events}
 
 -- a listing: a reader is opened, gives each line, and is closed; where it may not be opened, no more
 unfoldable pub listing_events : World → ℕ → Path → Table → List Event
@@ -45,8 +47,8 @@ lines_events w (asked ∷ lines) =
 -- the events of a part, in the world where it begins
 unfoldable pub part_events : World → Part → List Event
 part_events w (Phase lines) = lines_events w lines
-part_events w Settle = []
-part_events w (Sleep n) = []
+part_events w Settle = settle_events w
+part_events w (Sleep n) = sleep_events n w
 
 -- the events of parts, one part after another
 unfoldable pub parts_events : World → List Part → List Event
