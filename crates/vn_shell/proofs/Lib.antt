@@ -9,3 +9,6 @@ pub mod Jail
 pub mod Requests
 pub mod Meanings
 pub mod ReadParts
+pub mod SpacedWords
+pub mod ReadBack
+pub mod Written

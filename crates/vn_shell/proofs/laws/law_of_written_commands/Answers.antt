@@ -1,0 +1,5 @@
+use Rattle.vn_shell.proofs.Written.{command_back}
+use Rattle.vn_shell.proofs.laws.law_of_written_commands.Goals as goal
+
+pub returns : goal.returns
+returns c = command_back
