@@ -17,5 +17,6 @@ pub mod Reach
 pub mod Whole
 pub mod RowTexts
 pub mod PairTexts
+pub mod ReaderTexts
 pub mod ClosedRows
 pub mod PairRows

@@ -3,6 +3,7 @@ pub mod Locality
 pub mod Units
 pub mod Removals
 pub mod WorkedRows
+pub mod WorkedReaders
 pub mod PairSets
 pub mod Versions
 pub mod Growth

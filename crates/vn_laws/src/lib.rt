@@ -16,6 +16,8 @@ pub use locality::law_of_locality;
 pub use reaching::law_of_pairs;
 pub use readers::{law_of_kept_versions, law_of_reader_lines, law_of_unread_histories};
 pub use removal::{law_of_lowest_unit, law_of_removal};
-pub use rows::{law_of_closed_rows, law_of_worked_pairs, law_of_worked_rows};
+pub use rows::{
+    law_of_closed_rows, law_of_worked_pairs, law_of_worked_readers, law_of_worked_rows,
+};
 pub use runs::{law_of_growth, law_of_schedules, law_of_settling};
 pub use soundness::{law_of_clean_histories, law_of_sound_steps};

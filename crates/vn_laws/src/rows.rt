@@ -8,6 +8,8 @@ ghost use Rattle.vn_cells.specs.texts.Text.{text};
 ghost use Rattle.vn_laws.specs.PairSets.{any_pair, loan, raised, pair_alone, jail_and_pair};
 ghost use Rattle.vn_laws.specs.WorkedRows.{has_no_line, jail_a, jail_a_b, only, family, twice, no_parent_no_room, child, two_children, grandchild};
 ghost use Rattle.vn_laws.specs.WorkedRows.{empty_text, twice_text, no_parent_no_room_text, two_children_text, grandchild_text};
+ghost use Rattle.vn_laws.specs.WorkedReaders.{removed_unread, removed_read, lists, lists_at, listed};
+ghost use Rattle.vn_laws.specs.WorkedReaders.{removed_unread_text, removed_read_text, listed_text, listed_host_text, listed_absent_text};
 ghost use Rattle.vn_laws.specs.WorkedRows.{two_pairs, taken, lent, removes, two_pairs_text, taken_text, removed_text, ifs_lent, ifs_home};
 
 /// A script without lines runs to the opening world; and some histories, with the text that they
@@ -31,6 +33,19 @@ pub fn law_of_worked_pairs()
     ensures removed { text (lent ++ removes ∷ []) ≡ removed_text }
     ensures lent { ifs_of (stack_at (run lent) []) ≡ ifs_lent }
     ensures home { ifs_of (stack_at (run (lent ++ removes ∷ [])) []) ≡ ifs_home }
+{}
+
+/// Readers, with the texts that they leave: a jail is removed while a reader is open there, for which the
+/// last version of each of its tables is kept; the reader gives its line all the same, and nothing is kept
+/// once it is closed. And listings, of a jail and of host, which are opened, read line by line and closed;
+/// where no jail is, the opening is refused and nothing follows.
+pub fn law_of_worked_readers()
+    ensures unread { text removed_unread ≡ removed_unread_text }
+    ensures read { text removed_read ≡ removed_read_text }
+    ensures lists { serial_run lists ≡ listed }
+    ensures listed { text (serial_run lists) ≡ listed_text }
+    ensures host { text (serial_run (lists_at [])) ≡ listed_host_text }
+    ensures absent { text (serial_run (lists_at jail_a)) ≡ listed_absent_text }
 {}
 
 /// Sets that are closed in a history, and some that are not: since another jail's limit decides,
