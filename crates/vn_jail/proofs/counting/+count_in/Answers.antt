@@ -1,0 +1,47 @@
+use Rattle.std.proofs.Common.{◌≡◌, ◌<◌, ◌+◌, length, map, ap, sym, ◌∙◌, arith, rules, [], true, false, slice_index_or, slice_set}
+use Rattle.std.proofs.lemmas.Bool.{or_parts, leb-false}
+use Rattle.std.proofs.lemmas.List.{get_or_default}
+use Rattle.vn_jail.specs.declared.jail.Jail.{Jail}
+use Rattle.vn_jail.specs.Tree.{any_full, at, dead_jail, from, is_full, path_at, recount}
+use Rattle.vn_jail.proofs.Upwards.{full-parent, smaller, counted-host, counted-more, untold}
+use Rattle.vn_jail.proofs.counting.+count_in.Goals as goal
+
+pub returns-then-number-eq0 : goal.returns-then-number-eq0
+returns-then-number-eq0 t c = counted-host (λ n. n + 1) c.args.jails.now c.requires.linked c.args.number c.requires.number (search rules)
+
+pub count_in-requires : goal.count_in-requires
+count_in-requires t c =
+    let some : 0 < c.args.number = search rules in
+    let this = get_or_default c.args.jails.now c.args.number c.index-jails-number.result (dead_jail [] 0) c.requires.number in
+    let up = ap (λ (j : Jail). j.parent) this in
+    let shorter = ap (λ n. length (path_at c.args.jails.now n)) up in (
+      omega (arith, c.decreases, shorter, smaller c.args.jails.now c.requires.linked c.args.number c.requires.number some),
+      (
+        c.requires.linked,
+        (
+          omega (arith, up, c.requires.linked.inside c.args.number some c.requires.number),
+          ap (λ n. any_full c.args.jails.now (from (path_at c.args.jails.now n))) up ∙ (or_parts _ _ (sym (full-parent c.args.jails.now c.requires.linked c.args.number c.requires.number some) ∙ c.requires.room)).1,
+        ),
+      ),
+    )
+
+pub count_one_more-requires : goal.count_one_more-requires
+count_one_more-requires t c =
+    let some : 0 < c.args.number = search rules in
+    let this = get_or_default c.args.jails.now c.args.number c.index-jails-number.result (dead_jail [] 0) c.requires.number in
+    let own : slice_index_or c.count_in.new.jails c.args.number c.index-jails-number-2.result ≡ at c.args.jails.now c.args.number =
+    ap (λ js. slice_index_or js c.args.number c.index-jails-number-2.result) (c.count_in.ensures ∙ ap (λ (j : Jail). map (recount (λ n. n + 1) (from (path_at c.args.jails.now j.parent))) c.args.jails.now) this)
+    ∙ untold (λ n. n + 1) c.args.jails.now c.requires.linked c.args.number c.requires.number some c.index-jails-number-2.result in
+    ap is_full own ∙ (or_parts _ _ (sym (full-parent c.args.jails.now c.requires.linked c.args.number c.requires.number some) ∙ c.requires.room)).0
+
+pub returns : goal.returns
+returns t c =
+    let some : 0 < c.args.number = search rules in
+    let this = get_or_default c.args.jails.now c.args.number c.index-jails-number.result (dead_jail [] 0) c.requires.number in
+    let told : c.count_in.new.jails ≡ map (recount (λ n. n + 1) (from (path_at c.args.jails.now (at c.args.jails.now c.args.number).parent))) c.args.jails.now =
+    c.count_in.ensures ∙ ap (λ (j : Jail). map (recount (λ n. n + 1) (from (path_at c.args.jails.now j.parent))) c.args.jails.now) this in
+    let own : slice_index_or c.count_in.new.jails c.args.number c.index-jails-number-2.result ≡ at c.args.jails.now c.args.number =
+    ap (λ js. slice_index_or js c.args.number c.index-jails-number-2.result) told ∙ untold (λ n. n + 1) c.args.jails.now c.requires.linked c.args.number c.requires.number some c.index-jails-number-2.result in
+    ap (λ js. slice_set js c.args.number c.count_one_more.new.self) told
+    ∙ ap (λ (j : Jail). slice_set (map (recount (λ n. n + 1) (from (path_at c.args.jails.now (at c.args.jails.now c.args.number).parent))) c.args.jails.now) c.args.number j) (c.count_one_more.ensures ∙ ap (λ (j : Jail). record j { living = j.living + 1 }) own)
+    ∙ counted-more (λ n. n + 1) c.args.jails.now c.requires.linked c.args.number c.requires.number some
