@@ -15,6 +15,7 @@ use Rattle.vn_epair.specs.Line.{Halves, is_half}
 abbrev pub Name : Type 0
 Name = ℕ × ℕ
 
+-- by home, then by unit
 abbrev pub name_cmp : Name → Name → Ordering
 name_cmp x y = ordering_then (nat_cmp x.0 y.0) (nat_cmp x.1 y.1)
 
@@ -33,9 +34,11 @@ pub record IsKept (pairs : List (Option Pair)) (names : BTreeMap Name ℕ) (halv
   pub named : (q : ℕ) → IfSome (of pairs q) (λ pair. get name_cmp names (pair.home, pair.unit) ≡ Some q)
   -- and nothing else is
   pub standing : (k : Name) → IfSome (get name_cmp names k) (λ q. is_named k.0 k.1 (of pairs q) ≡ true)
+  -- each unit is one that a pair can be made with
   pub units : (q : ℕ) → IfSome (of pairs q) (λ pair. pair.unit ≤ UNIT_MAX)
   -- the halves in order are those to which a frame comes
   pub listed : (h : HalfId) → list_any (is_half h) halves.listed ≡ is_awaiting pairs h
+  -- each half is listed under its own name
   pub right : list_any (λ e. not (is_right pairs e)) halves.listed ≡ false
   -- there is room for each other half
   pub room : halves.room ≡ sum_by quiet_halves pairs

@@ -34,6 +34,7 @@ abbrev pub is_empty : List (List ℕ) → Bool
 is_empty [] = true
 is_empty (frame ∷ frames) = false
 
+-- the same of a half
 abbrev pub is_quiet : End → Bool
 is_quiet end = is_empty end.sent
 
@@ -111,7 +112,9 @@ is_unit_free stands home pairs unit =
 
 -- a unit is free, and none below it is
 pub record IsLowestFree (stands : IfName → Bool) (home : ℕ) (pairs : List (Option Pair)) (unit : ℕ) : Type 0 where
+  -- it is free
   pub free : is_unit_free stands home pairs unit ≡ true
+  -- and none below it is
   pub least : (lower : ℕ) → lower < unit → is_unit_free stands home pairs lower ≡ false
 
 -- some unit is free
@@ -130,18 +133,23 @@ side_number B = 1
 abbrev pub turn_of : ℕ → Side → ℕ
 turn_of unit side = 2 * unit + side_number side
 
+-- the place of a half by its number
 abbrev pub turn : List (Option Pair) → HalfId → ℕ
 turn pairs half = turn_of (pair_of pairs half.pair).unit half.side
 
+-- the number of the stack where a half's pair is homed
 abbrev pub home_of : List (Option Pair) → HalfId → ℕ
 home_of pairs half = (pair_of pairs half.pair).home
 
 -- the first half to which a frame comes, by the place of its home in the order, unit and side
 pub record IsNextQueued (order : List Sid) (pairs : List (Option Pair)) (half : HalfId) : Type 0 where
+  -- a frame comes to it
   pub awaiting : is_awaiting pairs half ≡ true
   -- the place of its home
   pub place : ℕ
+  -- which is one of the order
   pub listed : place < length order
+  -- there stands its home
   pub home : (d : Sid) → (slice_index_or order place d).0 ≡ home_of pairs half
   -- no frame comes to a half whose home stands before
   pub homes : (i : ℕ) (d : Sid) (other : HalfId) → i < place → is_awaiting pairs other ≡ true

@@ -20,8 +20,10 @@ Reserved = ℕ × HalfId
 pub record Held : Type 0 where
   -- in order of attachment
   pub attached : List Attached
+  -- the names that are reserved, with the halves that have them
   pub reserved : List Reserved
 
+-- no interface, and no name
 abbrev pub nothing : Held
 nothing = record { attached = []; reserved = [] }
 

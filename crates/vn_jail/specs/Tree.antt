@@ -17,6 +17,7 @@ dead_jail p parent = record { path = p; parent = parent; limit = 0; living = 0; 
 abbrev pub host_jail : Jail
 host_jail = record (dead_jail [] 0) { alive = true }
 
+-- whether it is at the path
 abbrev pub is_at : Path → Jail → Bool
 is_at p jail = path_eq p jail.path
 
@@ -47,6 +48,7 @@ recount f ps jail =
 abbrev pub at : List Jail → ℕ → Jail
 at jails number = slice_index_or jails number (dead_jail [] 0)
 
+-- the path of a number
 abbrev pub path_at : List Jail → ℕ → Path
 path_at jails number = (at jails number).path
 
@@ -59,6 +61,7 @@ unfoldable pub number_of : Path → List Jail → ℕ
 number_of p [] = 0
 number_of p (jail ∷ jails) = if is_at p jail then 0 else number_of p jails + 1
 
+-- whether the path lives
 abbrev pub is_alive : Path → List Jail → Bool
 is_alive p jails = list_any (lives_at p) jails
 
