@@ -5,6 +5,7 @@ use vn_types::{HalfId, IfOf, Ip4, List, SockName};
 pub const RECEIVED_MAX: usize = 32;
 
 /// A datagram that a socket has received (RFC 768), with the interface by which it came.
+#[derive(Drop)]
 pub struct GramOf<N> {
     pub src: Ip4,
     pub sport: u16,
