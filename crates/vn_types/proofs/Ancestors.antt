@@ -1,13 +1,14 @@
 -- The ancestors of a path: which paths it is under, and its parent.
-use Rattle.std.proofs.Common.{◌∙◌, ◌≡◌, ℕ, zero, suc, ◌≤◌, ◌-◌, ◌+◌, length-take, length, take, Bool, true, false, ◌&&◌, ◌||◌, not, List, [], ◌∷◌, ◌++◌, map, refl, sym, ap, arith}
+use Rattle.std.proofs.Common.{◌∙◌, ◌≡◌, ℕ, zero, suc, ◌<◌, ◌≤◌, ◌-◌, ◌+◌, length-take, length, take, Bool, true, false, ◌&&◌, ◌||◌, not, List, [], ◌∷◌, ◌++◌, map, refl, sym, ap, arith}
 use Rattle.std.specs.List.{list_any, list_all}
 use Rattle.std.specs.Str.{bytes_eq}
+use Rattle.std.proofs.Math.Bool.{or-false}
 use Rattle.std.proofs.lemmas.List.Folds.{list_any-append}
 use Rattle.std.proofs.lemmas.Bool.{and_parts, and_from}
 use Rattle.std.proofs.lemmas.Bool.Decides.{nat_tests}
 use Rattle.vn_types.specs.PathOrder.{path_eq-Decides}
 use Rattle.vn_types.specs.Words.{is_label}
-use Rattle.vn_types.specs.Paths.{Path, path_eq, is_host, is_under, is_path, above, first_or_host, parent}
+use Rattle.vn_types.specs.Paths.{Path, path_eq, is_host, is_under, is_path, above, from, first_or_host, parent}
 
 pub is_host-is : (p : Path) → is_host p ≡ true → p ≡ []
 unfolding is_host
@@ -62,13 +63,9 @@ any-above (l ∷ n ∷ q) [] = list_any-append (path_eq []) (map (λ r. l ∷ r)
 any-above (l ∷ n ∷ q) (x ∷ p) =
     list_any-append (path_eq (x ∷ p)) (map (λ r. l ∷ r) (above (n ∷ q))) ((l ∷ []) ∷ [])
     ∙ ap (λ b. b || ((bytes_eq x l && path_eq p []) || false)) (below_label x p l (above (n ∷ q)))
-    ∙ ap (λ b. (bytes_eq x l && list_any (path_eq p) (above (n ∷ q))) || b) (or_false (bytes_eq x l && path_eq p []))
+    ∙ ap (λ b. (bytes_eq x l && list_any (path_eq p) (above (n ∷ q))) || b) (or-false (bytes_eq x l && path_eq p []))
     ∙ own_label (bytes_eq x l) p (is_under (n ∷ q) p) (path_eq p (n ∷ q)) (list_any (path_eq p) (above (n ∷ q))) (top p) (new p) (any-above (n ∷ q) p)
   where
-    or_false : (b : Bool) → (b || false) ≡ b
-    or_false true = refl
-    or_false false = refl
-
     top : (p : Path) → is_host p ≡ true → is_under (n ∷ q) p ≡ true
     top [] h = refl
     top (y ∷ p) h = cc
@@ -76,6 +73,10 @@ any-above (l ∷ n ∷ q) (x ∷ p) =
     new : (p : Path) → is_host p ≡ true → path_eq p (n ∷ q) ≡ false
     new [] h = refl
     new (y ∷ p) h = cc
+
+-- a path is not above itself
+pub not-above : (p : Path) → list_any (path_eq p) (above p) ≡ false
+not-above p = any-above p p ∙ grind (arith, (path_eq-Decides p p).1 refl)
 
 -- ---- the parent
 
@@ -161,6 +162,29 @@ above-parent l n (m ∷ q) =
     by : (r : Path) → r ≡ n ∷ parent (m ∷ q) → map (λ s. l ∷ s) (r ∷ above r) ++ (l ∷ []) ∷ [] ≡ (l ∷ r) ∷ above (l ∷ r)
     by [] e = cc
     by (x ∷ r) e = refl
+
+-- ---- a path and its ancestors
+
+pub from-below : (p : Path) → 0 < length p → from p ≡ p ∷ above p
+from-below [] some = absurd (omega arith)
+from-below (l ∷ p) some = refl
+
+pub from-none : (p : Path) → length p ≤ 0 → from p ≡ []
+from-none [] none = refl
+from-none (l ∷ p) none = absurd (omega arith)
+
+-- a path's ancestors begin with its parent
+pub above-from : (p : Path) → above p ≡ from (parent p)
+unfolding above
+above-from [] = refl
+above-from (l ∷ []) = refl
+above-from (l ∷ n ∷ q) =
+    above-parent l n q
+    ∙ sym (from-below (parent (l ∷ n ∷ q)) (omega (arith, length-parent l (n ∷ q))))
+
+pub shorter : (p : Path) → 0 < length p → length (parent p) < length p
+shorter [] some = absurd (omega arith)
+shorter (l ∷ p) some = omega (arith, length-parent l p)
 
 -- ---- fewer labels
 

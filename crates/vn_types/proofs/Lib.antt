@@ -12,6 +12,7 @@ pub mod EntryLaws
 pub mod Assembling
 pub mod ListMaps
 pub mod Ancestors
+pub mod Chains
 pub mod AddressReading
 pub mod MacReading
 pub mod InterfaceReading

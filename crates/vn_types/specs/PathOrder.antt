@@ -1,12 +1,12 @@
 -- The order of paths is total, and its equality is equality.
-use Rattle.std.specs.Prelude.{◌≡◌, ◌&&◌, Some, refl}
+use Rattle.std.specs.Prelude.{◌≡◌, Some, refl}
 use Rattle.std.proofs.Common.{arith}
 use Rattle.std.specs.Bool.{Decides}
 use Rattle.std.specs.Str.{bytes_eq}
 use Rattle.std.specs.Ordering.{nat_cmp, ordering_then, eq_by_cmp, is_eq}
 use Rattle.std.specs.declared.cmp.Ordering.{Ordering}
 use Rattle.std.specs.declared.cmp.Ordering.TheVariants.{Less, Equal, Greater}
-use Rattle.std.specs.Cmp.{IsTotalOrder, IsEquivalence, IsPartialOrder, then_total, on_total, both_ways, Equal-is, po, unsigned_ties}
+use Rattle.std.specs.Cmp.{IsTotalOrder, IsEquivalence, IsPartialOrder, then_total, on_total, both_ways, tied_then, Equal-is, po, unsigned_ties}
 use Rattle.std.specs.FinMap.{slice_cmp-IsAntisymmetric, nat_cmp-IsAntisymmetric}
 use Rattle.std.proofs.lemmas.Slice.Eq.{slice_eq-Decides, bytes_eq-Decides}
 use Rattle.std.specs.Cmp.Lexicographic.{lists_total, lists_equiv, nat_list_cmp_total, nat_list_eq_equiv}
@@ -46,16 +46,11 @@ path_ties p q = both_ways (path_eq p q) (eq_by_cmp path_cmp p q)
     ((Equal-is (path_cmp q q)).1 (self_equal (path_cmp q q) (path_total.antisymm q q))))
     (λ e. rw (path_cmp-exact p q ((Equal-is (path_cmp p q)).0 e)) (path_equiv.refl q))
 
-eq_then : (a b : Ordering) → is_eq (ordering_then a b) ≡ (is_eq a && is_eq b)
-eq_then Less b = refl
-eq_then Equal b = refl
-eq_then Greater b = refl
-
 -- and so it is with pairs
 pub key_ties : (a b : Key) → key_eq a b ≡ is_eq (key_cmp a b)
 unfolding key_eq key_cmp
 key_ties a b =
-    grind (arith, eq_then (path_cmp a.0 b.0) (nat_cmp a.1 b.1), path_ties a.0 b.0, unsigned_ties a.1 b.1)
+    grind (arith, tied_then (path_cmp a.0 b.0) (nat_cmp a.1 b.1), path_ties a.0 b.0, unsigned_ties a.1 b.1)
 
 -- the order is one with that equality
 pub path_po : IsPartialOrder path_eq (λ p q. Some (path_cmp p q))

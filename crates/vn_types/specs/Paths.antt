@@ -58,6 +58,11 @@ above [] = []
 above (label ∷ []) = []
 above (label ∷ next ∷ labels) = map (λ p. label ∷ p) (above (next ∷ labels)) ++ (label ∷ []) ∷ []
 
+-- a path and its ancestors, but host
+abbrev pub from : Path → List Path
+from [] = []
+from (label ∷ labels) = (label ∷ labels) ∷ above (label ∷ labels)
+
 -- the first path, or host
 abbrev pub first_or_host : List Path → Path
 first_or_host [] = []
