@@ -4,7 +4,8 @@ use Rattle.std.proofs.lemmas.List.Elements.{All-append, All-cons, All-head, All-
 use Rattle.std.proofs.lemmas.List.Sorted.{All-permutation, sum_by-IsPermutation}
 use Rattle.std.proofs.lemmas.List.Sums.{sum_by-append}
 use Rattle.byteorder.specs.Endian.{big_bytes}
-use Rattle.vn_cksum.specs.Sums.{plus16, sum_words, words_of, sum_of, complement, folded, AreOctets, AreWords}
+use Rattle.vn_types.specs.Fields.{AreOctets}
+use Rattle.vn_cksum.specs.Sums.{plus16, sum_words, words_of, sum_of, complement, folded, AreWords}
 use Rattle.vn_cksum.specs.Laws.{HasSixteenBits, KeepsNoOrder, AddsRows, StandsForRow, ReplacesWord, Completes, IsZeroOfZeros, HasTwoZeros}
 use Rattle.vn_cksum.proofs.Totals.{sum-cons, total-append, folded-folded, sum_words-total, sum_of-total, sum_of-totals}
 

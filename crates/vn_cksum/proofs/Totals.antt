@@ -1,16 +1,13 @@
 -- The plain total of words, and the sum that it folds into.
-use Rattle.std.proofs.Common.{◌≡◌, ℕ, ◌+◌, ◌*◌, ◌%◌, ◌<◌, ◌≤◌, List, [], ◌∷◌, ◌++◌, length, take, drop, slice_index, get_or, Fits, w8, refl, sym, ap, ◌∙◌, arith, sum}
-use Rattle.std.proofs.lemmas.List.Elements.{All-append, All-cons, All-from_get_or, All-head, All-nil, All-tail}
+use Rattle.std.proofs.Common.{◌≡◌, ℕ, ◌+◌, ◌*◌, ◌%◌, ◌<◌, ◌≤◌, List, [], ◌∷◌, ◌++◌, length, take, drop, slice_index, refl, sym, ap, ◌∙◌, arith, sum}
+use Rattle.std.proofs.lemmas.List.Elements.{All-append, All-cons, All-head, All-nil, All-tail}
 use Rattle.std.proofs.lemmas.List.Sums.{sum_by-cons}
 use Rattle.byteorder.specs.Endian.{big_number}
-use Rattle.vn_cksum.specs.Sums.{plus16, sum_words, words_of, sum_of, folded, AreOctets, AreWords}
+use Rattle.vn_types.specs.Fields.{AreOctets}
+use Rattle.vn_cksum.specs.Sums.{plus16, sum_words, words_of, sum_of, folded, AreWords}
 
 pub sum-cons : (w : ℕ) (ws : List ℕ) → sum (w ∷ ws) ≡ w + sum ws
 sum-cons w ws = sum_by-cons (λ x. x) w ws
-
--- what a slice holds are octets
-pub octets-slice : (xs : List ℕ) → ((k : ℕ) → Fits w8 (get_or xs k 0)) → AreOctets xs
-octets-slice xs octet = All-from_get_or (λ x. x < 256) xs 0 (λ k h. omega (arith, octet k))
 
 pub octets-head : (a : ℕ) (xs : List ℕ) → AreOctets (a ∷ xs) → a < 256
 octets-head a xs octets = All-head (λ x. x < 256) a xs octets

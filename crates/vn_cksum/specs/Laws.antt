@@ -1,7 +1,8 @@
 -- The laws of the sum, as RFC 1071 and RFC 1624 give them.
 use Rattle.std.specs.Prelude.{◌≡◌, ◌≢◌, ◌↔◌, ℕ, ◌<◌, ◌%◌, List, ◌∷◌, ◌++◌, All, IsPermutation, length, sum}
 use Rattle.byteorder.specs.Endian.{big_bytes}
-use Rattle.vn_cksum.specs.Sums.{plus16, sum_words, sum_of, complement, folded, AreOctets, AreWords}
+use Rattle.vn_types.specs.Fields.{AreOctets}
+use Rattle.vn_cksum.specs.Sums.{plus16, sum_words, sum_of, complement, folded, AreWords}
 
 -- a sum has 16 bits
 abbrev pub HasSixteenBits : Type 0

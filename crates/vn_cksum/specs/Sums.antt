@@ -31,7 +31,3 @@ folded total = if total == 0 then 0 else (total - 1) % 65535 + 1
 -- words are numbers below 65536
 abbrev pub AreWords : List ℕ → Type 0
 AreWords ws = All (λ w. w < 65536) ws
-
--- and octets below 256
-abbrev pub AreOctets : List ℕ → Type 0
-AreOctets xs = All (λ x. x < 256) xs

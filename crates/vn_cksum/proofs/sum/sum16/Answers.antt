@@ -1,6 +1,7 @@
 use Rattle.std.proofs.Common.{ap, sym, ◌∙◌}
 use Rattle.vn_cksum.specs.Sums.{folded}
-use Rattle.vn_cksum.proofs.Totals.{octets-slice, sum_of-total}
+use Rattle.vn_types.proofs.OctetNumbers.{octets-slice}
+use Rattle.vn_cksum.proofs.Totals.{sum_of-total}
 use Rattle.vn_cksum.proofs.sum.sum16.Goals as goal
 
 pub returns : goal.returns

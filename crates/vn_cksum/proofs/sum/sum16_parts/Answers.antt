@@ -1,6 +1,7 @@
 use Rattle.std.proofs.Common.{◌≡◌, ◌+◌, ap, sym, ◌∙◌, sum}
 use Rattle.vn_cksum.specs.Sums.{words_of, folded}
-use Rattle.vn_cksum.proofs.Totals.{octets-slice, sum_of-totals}
+use Rattle.vn_types.proofs.OctetNumbers.{octets-slice}
+use Rattle.vn_cksum.proofs.Totals.{sum_of-totals}
 use Rattle.vn_cksum.proofs.sum.sum16_parts.Goals as goal
 
 pub returns : goal.returns

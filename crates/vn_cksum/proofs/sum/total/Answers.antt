@@ -1,7 +1,8 @@
 use Rattle.std.proofs.Common.{◌≡◌, ◌∙◌, ap, sum, take, drop, arith}
 use Rattle.byteorder.specs.Endian.{big_number}
 use Rattle.vn_cksum.specs.Sums.{words_of}
-use Rattle.vn_cksum.proofs.Totals.{octets-slice, first_word, last_word, no_word, twice_total}
+use Rattle.vn_types.proofs.OctetNumbers.{octets-slice}
+use Rattle.vn_cksum.proofs.Totals.{first_word, last_word, no_word, twice_total}
 use Rattle.vn_cksum.proofs.sum.total.Goals as goal
 
 pub overflow_add-total : goal.overflow_add-total
