@@ -1,5 +1,5 @@
 -- What a rule on packets is handed: a stack's parts, and a link for each half that stands there.
-use Rattle.std.specs.Prelude.{ℕ, Bool, false, ◌&&◌, nat_le, List, [], ◌∷◌, length, map, unwrap_or, if◌then◌else◌}
+use Rattle.std.specs.Prelude.{ℕ, Bool, true, false, ◌&&◌, nat_le, List, [], ◌∷◌, length, map, unwrap_or, if◌then◌else◌}
 use Rattle.std.specs.List.{find, list_all}
 use Rattle.vn_types.specs.declared.address.Mac.{Mac}
 use Rattle.vn_rules.specs.declared.parts.PartsOf.{PartsOf}
@@ -33,6 +33,11 @@ module _ {N : Type 0} where
   -- the link of a half that does not stand there: down, and nothing waits
   abbrev pub no_link : N → LinkOf N
   no_link h = record { half = h; mac = no_mac; up = false; sent = [] }
+
+-- whether no frame waits
+abbrev pub is_empty : List (List ℕ) → Bool
+is_empty [] = true
+is_empty (frame ∷ frames) = false
 
 -- whether so many frames wait as a queue can have
 abbrev pub is_queue : List (List ℕ) → Bool

@@ -1,5 +1,5 @@
 -- epair(4) and ifconfig(8): pairs are made and destroyed, and get hardware addresses.
-use Rattle.std.specs.Prelude.{ℕ, ◌/◌, ◌%◌, false, ◌||◌, not, nat_lt, [], ◌∷◌, Option, Some, None}
+use Rattle.std.specs.Prelude.{ℕ, false, ◌||◌, not, nat_lt, [], ◌∷◌, Option, Some, None}
 use Rattle.std.specs.Option.{is_none}
 use Rattle.vn_types.specs.declared.address.Mac.{Mac}
 use Rattle.vn_types.specs.declared.errno.Errno.TheVariants as errno

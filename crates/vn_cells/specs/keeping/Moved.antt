@@ -1,20 +1,16 @@
 -- What a half that stands elsewhere than before leaves behind: nothing.
-use Rattle.std.specs.Prelude.{◌≡◌, ◌≢◌, ℕ, Bool, true, false, ◌&&◌, List, [], ◌∷◌, Option, Some, None, not}
+use Rattle.std.specs.Prelude.{◌≡◌, ◌≢◌, Bool, true, ◌&&◌, Option, Some, None, not}
 use Rattle.std.specs.List.{list_any}
 use Rattle.vn_types.specs.declared.half.Half.{Half}
 use Rattle.vn_types.specs.declared.interface.IfOf.TheVariants.{Half as OfHalf}
 use Rattle.vn_rules.specs.declared.parts.PartsOf.{PartsOf}
 use Rattle.vn_rules.specs.Interfaces.{named_ifs, is_among, is_timer_of}
+use Rattle.vn_rules.specs.Scenes.{is_empty}
 use Rattle.vn_cells.specs.declared.world.Pair.{Pair}
 use Rattle.vn_cells.specs.declared.world.World.{World}
 use Rattle.vn_cells.specs.world.Names.{Path, half_eq, key_of}
 use Rattle.vn_cells.specs.world.World.{stack_at, pair_at, end_of, place}
 use Rattle.vn_cells.specs.keeping.Standing.{passes}
-
--- no frame waits
-abbrev pub is_empty : List (List ℕ) → Bool
-is_empty [] = true
-is_empty (frame ∷ frames) = false
 
 -- both queues are empty, and the half is down
 abbrev pub is_emptied : Half → Option Pair → Bool

@@ -15,7 +15,8 @@ use Rattle.vn_cells.specs.world.Names.{Path, Key, key_of, half_eq, path_eq, key_
 use Rattle.vn_cells.specs.world.World.{end_of, place}
 use Rattle.vn_cells.specs.commands.Moves.{placed_at}
 use Rattle.vn_cells.specs.keeping.Standing.{stands_at, has_queues}
-use Rattle.vn_cells.specs.keeping.Moved.{is_empty, is_emptied}
+use Rattle.vn_rules.specs.Scenes.{is_empty}
+use Rattle.vn_cells.specs.keeping.Moved.{is_emptied}
 use Rattle.vn_laws.proofs.edits.Names.{half_eq-Decides, key_eq-refl, same_half}
 use Rattle.vn_laws.proofs.edits.Paths.{path_eq-sym}
 
