@@ -147,7 +147,7 @@ impl Socket {
         ensures reported { OnErr result (self.new ≡ record self.old { refused = false }) }
     {
         if self.refused {
-            self.refused = false;
+            self.clear_error();
             return Err(Errno::ConnRefused);
         }
         match self.queue.take() {
