@@ -13,6 +13,7 @@ pub mod Assembling
 pub mod ListMaps
 pub mod Ancestors
 pub mod Chains
+pub mod UnderPaths
 pub mod AddressReading
 pub mod MacReading
 pub mod InterfaceReading

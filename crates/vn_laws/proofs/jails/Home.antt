@@ -18,7 +18,7 @@ use Rattle.vn_cells.specs.commands.Removal.{lent_here, sent_home}
 use Rattle.vn_cells.specs.keeping.Standing.{stands_at, times}
 use Rattle.vn_cells.specs.keeping.Sound.{IsSound}
 use Rattle.vn_laws.proofs.edits.Names.{half_eq-Decides, half_eq-refl, same_half}
-use Rattle.vn_laws.proofs.edits.Paths.{under-refl}
+use Rattle.vn_types.proofs.UnderPaths.{under-refl}
 use Rattle.vn_laws.proofs.edits.Cells.{pair_at-edit_stack}
 use Rattle.vn_laws.proofs.edits.Shapes.{shape-edit_stack, sound-shape, leaves-shape, shape_tree}
 use Rattle.vn_laws.proofs.edits.Fine.{Fine, fine-none, fine-then}

@@ -17,7 +17,7 @@ use Rattle.vn_cells.specs.keeping.Sound.{IsSound}
 use Rattle.vn_laws.proofs.edits.Cells.{apart, other_edit}
 use Rattle.vn_laws.proofs.edits.Names.{half_eq-refl}
 use Rattle.vn_laws.proofs.edits.NamesOnce.{listed_stands}
-use Rattle.vn_laws.proofs.edits.Paths.{under-refl}
+use Rattle.vn_types.proofs.UnderPaths.{under-refl}
 use Rattle.vn_laws.proofs.pairs.Listed.{has_half-has}
 use Rattle.vn_laws.proofs.pairs.Named.{standing_under}
 use Rattle.vn_laws.proofs.moves.Far.{moved-changes}

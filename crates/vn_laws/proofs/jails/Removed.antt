@@ -17,7 +17,8 @@ use Rattle.vn_cells.specs.commands.Removal.{torn_down, destroyed, living_under, 
 use Rattle.vn_cells.specs.keeping.Sound.{IsSound}
 use Rattle.vn_laws.specs.Relations.{Leaves}
 use Rattle.vn_laws.specs.Removals.{HomeAlone, past_cloner, DestroysAtHome}
-use Rattle.vn_laws.proofs.edits.Paths.{path_eq-sym, less-below, under-trans, not_host_under}
+use Rattle.vn_types.proofs.UnderPaths.{less-below}
+use Rattle.vn_laws.proofs.edits.Paths.{path_eq-sym, under-trans, not_host_under}
 use Rattle.vn_laws.proofs.edits.Lists.{any-filter, any-above_all}
 use Rattle.vn_laws.proofs.edits.Cells.{alive_listed, path_eq-same}
 use Rattle.vn_laws.proofs.edits.Standing.{leaves-none, leaves-then}

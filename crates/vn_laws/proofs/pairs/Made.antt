@@ -24,7 +24,8 @@ use Rattle.vn_cells.specs.keeping.Sound.{IsSound, IsNamed}
 use Rattle.vn_cells.specs.keeping.Moved.{forgets, is_emptied}
 use Rattle.vn_laws.specs.Relations.{Leaves, IsGone}
 use Rattle.vn_laws.proofs.edits.Names.{half_eq-Decides, half_eq-refl, half_eq-sym, same_half}
-use Rattle.vn_laws.proofs.edits.Paths.{path_eq-sym, under-refl}
+use Rattle.vn_types.proofs.UnderPaths.{under-refl}
+use Rattle.vn_laws.proofs.edits.Paths.{path_eq-sym}
 use Rattle.vn_laws.proofs.edits.Cells.{stack_at-edit_live, stack_at-add_pair, pair_at-each_stack, pair_at-add_pair, ordered-each_stack, ordered_pairs-add_pair, Ordered, OrderedPairs, stacks-add_pair, pairs-each_stack}
 use Rattle.vn_laws.proofs.edits.Trees.{SameTree, tree_of, tree-same, alive_tree}
 use Rattle.vn_laws.proofs.pairs.Listed.{count, count-last, has-count}
