@@ -1,22 +1,17 @@
 -- Jails by their paths and numbers.
-use Rattle.std.proofs.Common.{◌≡◌, ◌≢◌, ℕ, ◌+◌, ◌<◌, ◌≤◌, Bool, true, false, ◌&&◌, ◌||◌, List, [], ◌∷◌, length, get_or, Option, Some, None, IfSome, refl, sym, ap, ◌∙◌, subst, arith, suc, ⊎_elim}
+use Rattle.std.proofs.Common.{◌≡◌, ℕ, ◌+◌, ◌<◌, ◌≤◌, Bool, true, false, ◌&&◌, ◌||◌, List, [], ◌∷◌, length, get_or, Some, None, IfSome, refl, sym, ap, ◌∙◌, subst, arith, suc, ⊎_elim}
 use Rattle.std.specs.Prelude.{if◌then◌else◌}
 use Rattle.std.specs.List.{list_any, Any}
 use Rattle.std.specs.BTreeMap.{BTreeMap, get}
-use Rattle.std.proofs.lemmas.Bool.{and_parts, and_from, false≢true, false_from_ne_true, or_parts, or_cases, cases_lt}
+use Rattle.std.specs.Cmp.{both_ways}
+use Rattle.std.proofs.lemmas.Bool.{and_parts, and_from, false≢true, false_from_ne_true, cases_lt}
 use Rattle.std.proofs.lemmas.List.{get_or_default, get_or_past, get_or_read}
 use Rattle.std.proofs.lemmas.List.Folds.{Any-from_list_any, list_any_at}
-use Rattle.vn_types.specs.Paths.{Path, path_eq, path_cmp}
+use Rattle.vn_types.specs.Paths.{Path, path_cmp}
 use Rattle.vn_types.specs.PathOrder.{path_eq-Decides}
 use Rattle.vn_jail.specs.declared.jail.Jail.{Jail}
 use Rattle.vn_jail.specs.Tree.{at, path_at, is_at, is_known, is_alive, lives_at, dead_jail, number_of}
 use Rattle.vn_jail.specs.Kept.{IsLinked, IsNumbered}
-
--- tests that hold of the same are one
-pub same_true : (a b : Bool) → (a ≡ true → b ≡ true) → (b ≡ true → a ≡ true) → a ≡ b
-same_true true b to from = sym (to refl)
-same_true false true to from = from refl
-same_true false false to from = refl
 
 pub at-path : (p : Path) (jail : Jail) → is_at p jail ≡ true → jail.path ≡ p
 at-path p jail is = sym ((path_eq-Decides p jail.path).0 is)
@@ -77,7 +72,7 @@ alive-known jails p alive =
 module _ (jails : List Jail) (linked : IsLinked jails) (p : Path) where
   -- a test of the jails at a path is one of the jail with its number
   pub tested : (test : Jail → Bool) (n : ℕ) → n < length jails → path_at jails n ≡ p → list_any (λ j. is_at p j && test j) jails ≡ test (at jails n)
-  tested test n within is = same_true _ _ to from
+  tested test n within is = both_ways _ _ to from
     where
       to : list_any (λ j. is_at p j && test j) jails ≡ true → test (at jails n) ≡ true
       to any =

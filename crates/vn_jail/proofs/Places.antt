@@ -1,6 +1,6 @@
 -- The living in the order of their paths, when a jail begins or ends.
-use Rattle.std.proofs.Common.{◌≡◌, ◌≢◌, ℕ, ◌+◌, ◌<◌, ◌≤◌, Bool, true, false, ◌==◌, ◌&&◌, ◌||◌, List, [], ◌∷◌, length, get_or, refl, sym, ap, ap₂, ◌∙◌, subst, arith, ⊎_elim}
-use Rattle.std.specs.List.{list_any, insert, remove, Any, filter}
+use Rattle.std.proofs.Common.{◌≡◌, ◌≢◌, ℕ, ◌+◌, ◌<◌, ◌≤◌, Bool, true, false, ◌==◌, ◌||◌, List, ◌∷◌, length, get_or, refl, sym, ap, ◌∙◌, subst, arith, ⊎_elim}
+use Rattle.std.specs.List.{list_any, insert, remove, Any}
 use Rattle.std.specs.List.Sorted.{IsStrictlySortedBy}
 use Rattle.std.specs.Ordering.{is_lt, ordering_reverse}
 use Rattle.std.specs.declared.cmp.Ordering.{Ordering}
@@ -14,12 +14,13 @@ use Rattle.vn_types.specs.declared.interface.Sid.{Sid}
 use Rattle.vn_types.specs.Paths.{Path, path_cmp}
 use Rattle.vn_types.specs.PathOrder.{path_total, path_cmp-exact}
 use Rattle.vn_types.specs.OctetOrder.{self_equal}
+use Rattle.vn_types.proofs.Chains.{chain-insert, chain-remove}
 use Rattle.vn_jail.specs.declared.jail.Jail.{Jail}
 use Rattle.vn_jail.specs.Tree.{at, path_at}
 use Rattle.vn_jail.specs.Kept.{IsLinked}
 use Rattle.vn_jail.specs.Order.{by_path, Rises, IsInOrder, has_number}
-use Rattle.vn_jail.proofs.Numbers.{same_true, within}
-use Rattle.vn_jail.proofs.Orders.{ascends, ascending, ascends-insert, ascends-remove, by-path-total, is-less, less-is}
+use Rattle.vn_jail.proofs.Numbers.{within}
+use Rattle.vn_jail.proofs.Orders.{ascends, ascending, by-path-total, is-less, less-is}
 
 -- the order hangs on the paths alone
 by-path-same : (js ks : List Jail) → ((n : ℕ) → path_at js n ≡ path_at ks n) → by_path ks ≡ by_path js
@@ -40,7 +41,7 @@ pub record Place (n : ℕ) (order : List Sid) : Type 0 where
   pub inside : place < length order
   pub is : (d : Sid) → (get_or order place d).0 ≡ n
 
-place-of : (n : ℕ) (order : List Sid) → list_any (has_number n) order ≡ true → Place n order
+pub place-of : (n : ℕ) (order : List Sid) → list_any (has_number n) order ≡ true → Place n order
 place-of n order any = by (Any-from_list_any (has_number n) order any)
   where
     by : Any (λ x. has_number n x ≡ true) order → Place n order
@@ -61,7 +62,7 @@ module _ (jails : List Jail) (linked : IsLinked jails) (order : List Sid) (order
     pub ordered-insert : (at jails sid.0).alive ≡ false → (at after sid.0).alive ≡ true → IsInOrder after (insert order place sid)
     ordered-insert was is = record {
       rises = rises-same after jails (insert order place sid) same (ascending (by_path jails) (by-path-total jails) (insert order place sid)
-          (ascends-insert (by_path jails) (by-path-total jails) order place sid (ascends (by_path jails) (by-path-total jails) order ordered.rises) fits (λ k d lt. is-less _ (before k d lt)) later));
+          (chain-insert (λ x y. by_path jails x y ≡ Less) order place sid (ascends (by_path jails) (by-path-total jails) order ordered.rises) fits (λ k d lt. is-less _ (before k d lt)) later));
       living = λ n. sym (list_any-IsPermutation (has_number n) (sid ∷ order) (insert order place sid) (IsPermutation-insert order place sid)) ∙ ap (λ b. (sid.0 == n) || b) (ordered.living n) ∙ ⊎_elim (here n) (there n) (cases_eq n sid.0);
     }
       where
@@ -115,7 +116,7 @@ module _ (jails : List Jail) (linked : IsLinked jails) (order : List Sid) (order
       pub ordered-remove : (at after sid.0).alive ≡ false → IsInOrder after (remove order place)
       ordered-remove is = record {
         rises = rises-same after jails (remove order place) same (ascending (by_path jails) (by-path-total jails) (remove order place)
-            (ascends-remove (by_path jails) (by-path-total jails) order place up stands-within));
+            (chain-remove (λ x y. by_path jails x y ≡ Less) order place up stands-within));
         living = λ n. ⊎_elim (here n) (there n) (cases_eq n sid.0);
       }
         where

@@ -1,35 +1,16 @@
 -- A path's ancestors, one after another, and what they count.
-use Rattle.std.proofs.Common.{◌≡◌, ◌≢◌, ◌<◌, ◌≤◌, ◌+◌, ◌∷◌, ℕ, Bool, true, false, ◌||◌, ◌&&◌, List, [], length, map, get_or, refl, sym, ap, ap₂, ◌∙◌, subst, arith, ⊎_elim}
-use Rattle.std.specs.Prelude.{if◌then◌else◌, slice_set, not}
+use Rattle.std.proofs.Common.{◌≡◌, ◌≢◌, ◌<◌, ◌≤◌, ◌∷◌, ℕ, Bool, true, false, ◌||◌, List, [], length, map, get_or, refl, sym, ap, ◌∙◌, subst, arith, ⊎_elim}
+use Rattle.std.specs.Prelude.{if◌then◌else◌, slice_set}
 use Rattle.std.specs.List.{list_any}
 use Rattle.std.proofs.lemmas.Bool.{cases_eq, cases_lt, false_from_ne_true, false≢true}
-use Rattle.std.proofs.lemmas.List.{same_lists, get_or-map, get_or-set_same, get_or-set_other, get_or_default, length-map, length-set}
-use Rattle.vn_types.specs.Paths.{Path, path_eq, above, parent}
+use Rattle.std.proofs.lemmas.List.{same_lists, get_or-map, get_or-set_same, get_or-set_other, length-map, length-set}
+use Rattle.vn_types.specs.Paths.{Path, path_eq, from}
 use Rattle.vn_types.specs.PathOrder.{path_eq-Decides}
-use Rattle.vn_types.proofs.Ancestors.{above-parent, any-above, length-parent}
+use Rattle.vn_types.proofs.Ancestors.{from-below, above-from, not-above, shorter}
 use Rattle.vn_jail.specs.declared.jail.Jail.{Jail}
-use Rattle.vn_jail.specs.Tree.{at, path_at, from, recount, dead_jail, any_full, is_at, is_full}
+use Rattle.vn_jail.specs.Tree.{at, path_at, recount, dead_jail, any_full, is_full}
 use Rattle.vn_jail.specs.Kept.{IsLinked}
 use Rattle.vn_jail.proofs.Numbers.{tested}
-
-pub from-below : (p : Path) → 0 < length p → from p ≡ p ∷ above p
-from-below [] some = absurd (omega arith)
-from-below (l ∷ p) some = refl
-
--- a path's ancestors begin with its parent
-pub above-from : (p : Path) → above p ≡ from (parent p)
-unfolding above
-above-from [] = refl
-above-from (l ∷ []) = refl
-above-from (l ∷ n ∷ q) = above-parent l n q ∙ sym (from-below (parent (l ∷ n ∷ q)) (omega (arith, length-parent l (n ∷ q))))
-
-pub shorter : (p : Path) → 0 < length p → length (parent p) < length p
-shorter [] some = absurd (omega arith)
-shorter (l ∷ p) some = omega (arith, length-parent l p)
-
--- a path is not above itself
-pub not-above : (p : Path) → list_any (path_eq p) (above p) ≡ false
-not-above p = any-above p p ∙ grind (arith, (path_eq-Decides p p).1 refl)
 
 no-label : (p : Path) → (0 < length p → ⊥) → p ≡ []
 no-label [] none = refl
@@ -52,6 +33,10 @@ module _ (jails : List Jail) (linked : IsLinked jails) (n : ℕ) (within : n < l
 
   pub smaller : 0 < n → length (path_at jails (at jails n).parent) < length (path_at jails n)
   smaller some = let s = shorter (path_at jails n) (has-label some) in let l = ap length (linked.linked n some within) in omega arith
+
+  -- the parent's number is one, and its path is shorter
+  pub upwards : 0 < n → (jail : Jail) → jail ≡ at jails n → (length (path_at jails jail.parent) < length (path_at jails n)) × (jail.parent < length jails)
+  upwards some jail is = subst (λ (j : Jail). (length (path_at jails j.parent) < length (path_at jails n)) × (j.parent < length jails)) (sym is) (smaller some, linked.inside n some within)
 
   pub full-parent : 0 < n → any_full jails (from (path_at jails n)) ≡ (is_full (at jails n) || any_full jails (from (path_at jails (at jails n).parent)))
   full-parent some = ap (any_full jails) (from-parent some) ∙ ap (λ b. b || any_full jails (from (path_at jails (at jails n).parent))) (tested jails linked (path_at jails n) is_full n within refl)

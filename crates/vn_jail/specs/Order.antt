@@ -1,5 +1,5 @@
 -- Living stacks in the order of their paths.
-use Rattle.std.specs.Prelude.{◌≡◌, ℕ, Bool, ◌==◌, ◌&&◌, List, reverse}
+use Rattle.std.specs.Prelude.{◌≡◌, ◌-◌, ℕ, Bool, ◌==◌, ◌&&◌, List, length, reverse, slice_index_or}
 use Rattle.std.specs.List.{list_any}
 use Rattle.std.specs.List.Sorted.{IsStrictlySortedBy}
 use Rattle.std.specs.declared.cmp.Ordering.{Ordering}
@@ -34,3 +34,5 @@ pub record IsTeardown (p : Path) (jails : List Jail) (sids : List Sid) : Type 0 
   -- exactly the path and what lives below it
   pub listed : (number : ℕ) → list_any (has_number number) sids
       ≡ ((at jails number).alive && is_under (path_at jails number) p)
+  -- the path itself comes last
+  pub last : (d : Sid) → path_at jails (slice_index_or sids (length sids - 1) d).0 ≡ p

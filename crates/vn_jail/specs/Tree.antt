@@ -1,5 +1,5 @@
 -- The tree of jails, as the list of them by their numbers.
-use Rattle.std.specs.Prelude.{◌≡◌, ℕ, ◌+◌, ◌-◌, Bool, true, false, ◌&&◌, not, nat_le, List, [], ◌∷◌, ◌++◌, map, slice_index_or, Option, if◌then◌else◌}
+use Rattle.std.specs.Prelude.{ℕ, ◌+◌, ◌-◌, Bool, true, false, ◌&&◌, not, nat_le, List, [], ◌∷◌, ◌++◌, map, slice_index_or, Option, if◌then◌else◌}
 use Rattle.std.specs.List.{list_any, count_by}
 use Rattle.vn_types.specs.declared.errno.Errno.{Errno}
 use Rattle.vn_types.specs.declared.errno.Errno.TheVariants.{NoEnt, Exist, Perm}
@@ -68,11 +68,6 @@ is_alive p jails = list_any (lives_at p) jails
 -- whether one of these paths has as many living descendants as its limit
 abbrev pub any_full : List Jail → List Path → Bool
 any_full jails ps = list_any (λ p. list_any (λ jail. is_at p jail && is_full jail) jails) ps
-
--- a path and its ancestors, but host
-abbrev pub from : Path → List Path
-from [] = []
-from (label ∷ p) = (label ∷ p) ∷ above (label ∷ p)
 
 -- whether a jail lives properly below a path
 abbrev pub lives_below : Path → Jail → Bool

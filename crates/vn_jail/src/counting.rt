@@ -1,6 +1,6 @@
 ghost use Rattle.std.specs.Prelude.{◌≡◌, ◌+◌, ◌-◌, ◌<◌, map, false, length};
-ghost use Rattle.vn_types.specs.Paths.{above};
-ghost use Rattle.vn_jail.specs.Tree.{any_full, changed, from, path_at, recount, start, stop};
+ghost use Rattle.vn_types.specs.Paths.{above, from};
+ghost use Rattle.vn_jail.specs.Tree.{any_full, changed, path_at, recount, start, stop};
 ghost use Rattle.vn_jail.specs.Kept.{IsLinked};
 
 use crate::jail::Jail;

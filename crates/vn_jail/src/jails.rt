@@ -123,7 +123,8 @@ impl Jails {
         requires dead { (at self.old sid.0).alive ≡ false }
         requires parent { is_alive (parent (path_at self.old sid.0)) self.old ≡ true }
         requires room { any_full self.old (above (path_at self.old sid.0)) ≡ false }
-        ensures started { OnOk result (self.new ≡ changed (start limit) (λ n. n + 1) (path_at self.old sid.0) self.old) }
+        ensures started { OnOk result (self.new
+            ≡ changed (start limit) (λ n. n + 1) (path_at self.old sid.0) self.old) }
         ensures kept { OnErr result (self.new ≡ self.old) }
     {
         let path = &self.jails[sid.0 as usize].path;

@@ -1,9 +1,10 @@
-use Rattle.std.proofs.Common.{◌≡◌, ◌<◌, ◌+◌, length, map, ap, sym, ◌∙◌, arith, rules, [], true, false, slice_index_or, slice_set}
-use Rattle.std.proofs.lemmas.Bool.{or_parts, leb-false}
+use Rattle.std.proofs.Common.{◌≡◌, ◌<◌, ◌+◌, map, ap, sym, ◌∙◌, arith, rules, [], slice_index_or, slice_set}
+use Rattle.std.proofs.lemmas.Bool.{or_parts}
 use Rattle.std.proofs.lemmas.List.{get_or_default}
+use Rattle.vn_types.specs.Paths.{from}
 use Rattle.vn_jail.specs.declared.jail.Jail.{Jail}
-use Rattle.vn_jail.specs.Tree.{any_full, at, dead_jail, from, is_full, path_at, recount}
-use Rattle.vn_jail.proofs.Upwards.{full-parent, smaller, counted-host, counted-more, untold}
+use Rattle.vn_jail.specs.Tree.{any_full, at, dead_jail, is_full, path_at, recount}
+use Rattle.vn_jail.proofs.Upwards.{full-parent, upwards, counted-host, counted-more, untold}
 use Rattle.vn_jail.proofs.counting.+count_in.Goals as goal
 
 pub returns-then-number-eq0 : goal.returns-then-number-eq0
@@ -13,17 +14,8 @@ pub count_in-requires : goal.count_in-requires
 count_in-requires t c =
     let some : 0 < c.args.number = search rules in
     let this = get_or_default c.args.jails.now c.args.number c.index-jails-number.result (dead_jail [] 0) c.requires.number in
-    let up = ap (λ (j : Jail). j.parent) this in
-    let shorter = ap (λ n. length (path_at c.args.jails.now n)) up in (
-      omega (arith, c.decreases, shorter, smaller c.args.jails.now c.requires.linked c.args.number c.requires.number some),
-      (
-        c.requires.linked,
-        (
-          omega (arith, up, c.requires.linked.inside c.args.number some c.requires.number),
-          ap (λ n. any_full c.args.jails.now (from (path_at c.args.jails.now n))) up ∙ (or_parts _ _ (sym (full-parent c.args.jails.now c.requires.linked c.args.number c.requires.number some) ∙ c.requires.room)).1,
-        ),
-      ),
-    )
+    let up = upwards c.args.jails.now c.requires.linked c.args.number c.requires.number some _ this in
+    (omega (arith, c.decreases, up.0), (c.requires.linked, (up.1, ap (λ (j : Jail). any_full c.args.jails.now (from (path_at c.args.jails.now j.parent))) this ∙ (or_parts _ _ (sym (full-parent c.args.jails.now c.requires.linked c.args.number c.requires.number some) ∙ c.requires.room)).1)))
 
 pub count_one_more-requires : goal.count_one_more-requires
 count_one_more-requires t c =

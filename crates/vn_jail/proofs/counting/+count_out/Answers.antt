@@ -1,9 +1,9 @@
-use Rattle.std.proofs.Common.{◌≡◌, ◌<◌, ◌-◌, length, map, ap, sym, ◌∙◌, arith, rules, [], true, false, slice_index_or, slice_set}
-use Rattle.std.proofs.lemmas.Bool.{or_parts, leb-false}
+use Rattle.std.proofs.Common.{◌≡◌, ◌<◌, ◌-◌, map, ap, ◌∙◌, arith, rules, [], slice_index_or, slice_set}
 use Rattle.std.proofs.lemmas.List.{get_or_default}
+use Rattle.vn_types.specs.Paths.{from}
 use Rattle.vn_jail.specs.declared.jail.Jail.{Jail}
-use Rattle.vn_jail.specs.Tree.{any_full, at, dead_jail, from, is_full, path_at, recount}
-use Rattle.vn_jail.proofs.Upwards.{full-parent, smaller, counted-host, counted-more, untold}
+use Rattle.vn_jail.specs.Tree.{at, dead_jail, path_at, recount}
+use Rattle.vn_jail.proofs.Upwards.{upwards, counted-host, counted-more, untold}
 use Rattle.vn_jail.proofs.counting.+count_out.Goals as goal
 
 pub returns-then-number-eq0 : goal.returns-then-number-eq0
@@ -13,11 +13,8 @@ pub count_out-requires : goal.count_out-requires
 count_out-requires t c =
     let some : 0 < c.args.number = search rules in
     let this = get_or_default c.args.jails.now c.args.number c.index-jails-number.result (dead_jail [] 0) c.requires.number in
-    let up = ap (λ (j : Jail). j.parent) this in
-    let shorter = ap (λ n. length (path_at c.args.jails.now n)) up in (
-      omega (arith, c.decreases, shorter, smaller c.args.jails.now c.requires.linked c.args.number c.requires.number some),
-      (c.requires.linked, omega (arith, up, c.requires.linked.inside c.args.number some c.requires.number)),
-    )
+    let up = upwards c.args.jails.now c.requires.linked c.args.number c.requires.number some _ this in
+    (omega (arith, c.decreases, up.0), (c.requires.linked, up.1))
 
 pub returns : goal.returns
 returns t c =

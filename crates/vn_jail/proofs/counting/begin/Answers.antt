@@ -1,10 +1,11 @@
-use Rattle.std.proofs.Common.{◌≡◌, ◌<◌, ◌+◌, length, map, ap, sym, ◌∙◌, arith, rules, [], true, false, refl, slice_index_or, slice_set}
+use Rattle.std.proofs.Common.{◌≡◌, ◌+◌, map, ap, sym, ◌∙◌, arith, [], refl, slice_index_or, slice_set}
 use Rattle.std.proofs.lemmas.List.{get_or_default}
-use Rattle.vn_types.specs.Paths.{above}
+use Rattle.vn_types.specs.Paths.{from}
+use Rattle.vn_types.proofs.Ancestors.{above-from}
 use Rattle.vn_jail.specs.declared.jail.Jail.{Jail}
-use Rattle.vn_jail.specs.Tree.{any_full, at, dead_jail, from, path_at, recount, start}
-use Rattle.vn_jail.proofs.Upwards.{above-from, untold}
-use Rattle.vn_jail.proofs.Trees.{changed-is}
+use Rattle.vn_jail.specs.Tree.{any_full, at, dead_jail, path_at, recount, start}
+use Rattle.vn_jail.proofs.Upwards.{untold}
+use Rattle.vn_jail.proofs.Changes.{changed-is}
 use Rattle.vn_jail.proofs.counting.begin.Goals as goal
 
 pub count_in-requires-clause-number : goal.count_in-requires-clause-number

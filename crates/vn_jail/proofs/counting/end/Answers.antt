@@ -1,10 +1,10 @@
-use Rattle.std.proofs.Common.{◌≡◌, ◌<◌, ◌-◌, length, map, ap, sym, ◌∙◌, arith, rules, [], true, false, refl, slice_index_or, slice_set}
+use Rattle.std.proofs.Common.{◌≡◌, ◌-◌, map, ap, ◌∙◌, arith, [], refl, slice_index_or, slice_set}
 use Rattle.std.proofs.lemmas.List.{get_or_default}
-use Rattle.vn_types.specs.Paths.{above}
+use Rattle.vn_types.specs.Paths.{from}
 use Rattle.vn_jail.specs.declared.jail.Jail.{Jail}
-use Rattle.vn_jail.specs.Tree.{any_full, at, dead_jail, from, path_at, recount, stop}
-use Rattle.vn_jail.proofs.Upwards.{above-from, untold}
-use Rattle.vn_jail.proofs.Trees.{changed-is}
+use Rattle.vn_jail.specs.Tree.{at, dead_jail, path_at, recount, stop}
+use Rattle.vn_jail.proofs.Upwards.{untold}
+use Rattle.vn_jail.proofs.Changes.{changed-is}
 use Rattle.vn_jail.proofs.counting.end.Goals as goal
 
 pub count_out-requires-clause-number : goal.count_out-requires-clause-number

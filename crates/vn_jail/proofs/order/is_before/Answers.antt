@@ -1,4 +1,4 @@
-use Rattle.std.proofs.Common.{◌≡◌, ◌≤◌, [], length, sym, ap, ◌∙◌, rules}
+use Rattle.std.proofs.Common.{◌≤◌, [], length, sym, ap, ◌∙◌, rules}
 use Rattle.std.specs.Ordering.{is_lt}
 use Rattle.std.proofs.lemmas.List.{get_or_past}
 use Rattle.vn_types.specs.Paths.{path_cmp}

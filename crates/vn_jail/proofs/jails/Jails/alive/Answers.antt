@@ -1,4 +1,4 @@
-use Rattle.std.proofs.Common.{rules, ◌≡◌, ℕ, true, false, Some, None, sym, ap, ◌∙◌, ◌<◌, length, subst}
+use Rattle.std.proofs.Common.{rules, ◌≡◌, true, false, Some, None, sym, ap, ◌∙◌, ◌<◌, length, subst}
 use Rattle.std.specs.BTreeMap.{get}
 use Rattle.std.proofs.lemmas.Bool.{false≢true}
 use Rattle.vn_types.specs.Paths.{path_cmp}

@@ -1,9 +1,10 @@
-use Rattle.std.proofs.Common.{◌≡◌, ◌+◌, ◌<◌, length, true, false, refl, sym, ap, ap₂, ◌∙◌, arith}
+use Rattle.std.proofs.Common.{◌≡◌, ◌+◌, length, true, false, refl, sym, ap, ap₂, ◌∙◌, arith}
 use Rattle.std.proofs.lemmas.Bool.{false≢true, false_from_ne_true}
 use Rattle.vn_types.specs.Paths.{above, is_host, parent}
-use Rattle.vn_jail.specs.Tree.{any_full, at, changed, from, is_alive, known, number_of, path_at, start}
-use Rattle.vn_jail.proofs.Trees.{as-many}
-use Rattle.vn_jail.proofs.Tables.{full-refused, not-refused, numbered-either, one-number, parent-number}
+use Rattle.vn_jail.specs.Tree.{any_full, at, changed, is_alive, known, number_of, path_at, start}
+use Rattle.vn_jail.proofs.Changes.{as-many}
+use Rattle.vn_jail.proofs.Known.{numbered-either, one-number}
+use Rattle.vn_jail.proofs.Tables.{asked-above, full-refused, not-refused, parent-number}
 use Rattle.vn_jail.proofs.jails.Jails.create.Goals as goal
 
 pub is_any_full-requires-clause-number : goal.is_any_full-requires-clause-number
@@ -18,10 +19,8 @@ returns-then-is_any_full-clause-answer c =
     let up : is_alive (parent c.args.path.now) c.args.self.now ≡ true = ap (λ q. is_alive q c.args.self.now) (sym c.in_ok-parent.ensures) ∙ c.in-Some.ensures.alive.0 refl in
     let gone : is_alive c.args.path.now c.args.self.now ≡ false = false_from_ne_true _ (λ e. false≢true (sym (sym c.is_some.ensures ∙ c.if-is_some.false) ∙ c.alive-2.ensures.alive.1 e)) in
     let own : c.in-Some.parent.0 ≡ number_of (parent c.args.path.now) c.args.self.now = c.in-Some.ensures.number ∙ ap (λ q. number_of q c.args.self.now) c.in_ok-parent.ensures in
-    let pn = parent-number c.args.path.now c.args.self.now up in
-    let full : c.is_any_full.result ≡ any_full c.args.self.now (above c.args.path.now) =
-    c.is_any_full.ensures ∙ ap₂ (λ js n. any_full js (from (path_at js n))) (c.deref.ensures.value ∙ c.self.view_is) own ∙ ap (any_full c.args.self.now) pn.1 in
-    full-refused c.args.path.now c.args.self.now up gone (sym full ∙ c.if-is_any_full.true)
+    let full = asked-above _ _ c.args.path.now _ _ (c.deref.ensures.value ∙ c.self.view_is) own up c.is_any_full.ensures in
+    full-refused c.args.path.now c.args.self.now up gone (full ∙ c.if-is_any_full.true)
 
 pub start-requires-clause-number : goal.start-requires-clause-number
 start-requires-clause-number c =
@@ -54,22 +53,18 @@ start-requires-clause-room c =
     let up : is_alive (parent c.args.path.now) c.args.self.now ≡ true = ap (λ q. is_alive q c.args.self.now) (sym c.in_ok-parent.ensures) ∙ c.in-Some.ensures.alive.0 refl in
     let gone : is_alive c.args.path.now c.args.self.now ≡ false = false_from_ne_true _ (λ e. false≢true (sym (sym c.is_some.ensures ∙ c.if-is_some.false) ∙ c.alive-2.ensures.alive.1 e)) in
     let own : c.in-Some.parent.0 ≡ number_of (parent c.args.path.now) c.args.self.now = c.in-Some.ensures.number ∙ ap (λ q. number_of q c.args.self.now) c.in_ok-parent.ensures in
-    let pn = parent-number c.args.path.now c.args.self.now up in
-    let full : c.is_any_full.result ≡ any_full c.args.self.now (above c.args.path.now) =
-    c.is_any_full.ensures ∙ ap₂ (λ js n. any_full js (from (path_at js n))) (c.deref.ensures.value ∙ c.self.view_is) own ∙ ap (any_full c.args.self.now) pn.1 in
+    let full = asked-above _ _ c.args.path.now _ _ (c.deref.ensures.value ∙ c.self.view_is) own up c.is_any_full.ensures in
     let n = numbered-either c.args.path.now c.args.self.now gone in
     ap₂ (λ js m. any_full js (above (path_at js m))) c.in_ok-sid.ensures.known c.in_ok-sid.ensures.number
-    ∙ ap (λ q. any_full (known c.args.path.now c.args.self.now) (above q)) n.path ∙ n.room ∙ sym full ∙ c.if-is_any_full.false
+    ∙ ap (λ q. any_full (known c.args.path.now c.args.self.now) (above q)) n.path ∙ n.room ∙ full ∙ c.if-is_any_full.false
 
 pub returns-clause-answer : goal.returns-clause-answer
 returns-clause-answer c =
     let up : is_alive (parent c.args.path.now) c.args.self.now ≡ true = ap (λ q. is_alive q c.args.self.now) (sym c.in_ok-parent.ensures) ∙ c.in-Some.ensures.alive.0 refl in
     let gone : is_alive c.args.path.now c.args.self.now ≡ false = false_from_ne_true _ (λ e. false≢true (sym (sym c.is_some.ensures ∙ c.if-is_some.false) ∙ c.alive-2.ensures.alive.1 e)) in
     let own : c.in-Some.parent.0 ≡ number_of (parent c.args.path.now) c.args.self.now = c.in-Some.ensures.number ∙ ap (λ q. number_of q c.args.self.now) c.in_ok-parent.ensures in
-    let pn = parent-number c.args.path.now c.args.self.now up in
-    let full : c.is_any_full.result ≡ any_full c.args.self.now (above c.args.path.now) =
-    c.is_any_full.ensures ∙ ap₂ (λ js n. any_full js (from (path_at js n))) (c.deref.ensures.value ∙ c.self.view_is) own ∙ ap (any_full c.args.self.now) pn.1 in
-    not-refused c.args.path.now c.args.self.now up gone (sym full ∙ c.if-is_any_full.false)
+    let full = asked-above _ _ c.args.path.now _ _ (c.deref.ensures.value ∙ c.self.view_is) own up c.is_any_full.ensures in
+    not-refused c.args.path.now c.args.self.now up gone (full ∙ c.if-is_any_full.false)
 
 pub returns-clause-created : goal.returns-clause-created
 returns-clause-created c =

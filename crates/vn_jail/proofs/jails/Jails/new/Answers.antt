@@ -1,7 +1,7 @@
-use Rattle.std.proofs.Common.{◌≡◌, None, Some, sym, ap, ◌∙◌, subst, rules, refl, ◌∷◌, [], cond}
+use Rattle.std.proofs.Common.{◌≡◌, Some, sym, ap, ◌∙◌, subst, rules, ◌∷◌, [], cond}
 use Rattle.std.specs.Map.{lookup}
 use Rattle.std.specs.BTreeMap.{get, is_at}
-use Rattle.vn_types.specs.Paths.{Path, path_cmp}
+use Rattle.vn_types.specs.Paths.{path_cmp}
 use Rattle.vn_jail.specs.Tree.{host_jail}
 use Rattle.vn_jail.specs.Kept.{IsKept}
 use Rattle.vn_jail.proofs.Tables.{kept-opened}

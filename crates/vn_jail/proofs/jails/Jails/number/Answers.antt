@@ -1,10 +1,10 @@
-use Rattle.std.proofs.Common.{◌≡◌, ◌++◌, ◌∷◌, [], None, Some, length, sym, ap, ap₂, ◌∙◌, subst, rules, true, cond}
+use Rattle.std.proofs.Common.{◌≡◌, ◌++◌, ◌∷◌, [], None, Some, length, sym, ap, ap₂, ◌∙◌, subst, rules, cond}
 use Rattle.std.specs.BTreeMap.{get, is_at}
-use Rattle.vn_types.specs.Paths.{Path, path_cmp, parent}
-use Rattle.vn_jail.specs.Tree.{dead_jail, is_alive, is_known, known, number_of}
+use Rattle.vn_types.specs.Paths.{path_cmp, parent}
+use Rattle.vn_jail.specs.Tree.{dead_jail, is_alive, is_known, number_of}
 use Rattle.vn_jail.specs.Kept.{IsKept}
 use Rattle.vn_jail.proofs.Numbers.{found-path, found-within, is-known, number-found, number-none, unknown}
-use Rattle.vn_jail.proofs.Tables.{kept-known, known-is, known-new}
+use Rattle.vn_jail.proofs.Known.{kept-known, known-is, known-new}
 use Rattle.vn_jail.proofs.jails.Jails.number.Goals as goal
 
 pub returns-in-Some-clause-known : goal.returns-in-Some-clause-known

@@ -1,12 +1,11 @@
-use Rattle.std.proofs.Common.{◌≡◌, ◌<◌, ◌≤◌, ◌-◌, ◌++◌, [], length, take, drop, true, false, refl, sym, ap, ap₂, ◌∙◌, subst, rules, arith, slice_index_or}
-use Rattle.std.specs.List.{remove}
+use Rattle.std.proofs.Common.{◌≡◌, ◌<◌, ◌≤◌, ◌-◌, [], length, drop, refl, sym, ap, ◌∙◌, subst, rules, arith}
 use Rattle.std.proofs.lemmas.List.{get_or_read}
-use Rattle.vn_types.specs.Paths.{is_host, parent}
+use Rattle.vn_types.specs.Paths.{is_host}
 use Rattle.vn_jail.specs.declared.jail.Jail.{Jail}
 use Rattle.vn_jail.specs.Kept.{IsKept}
 use Rattle.vn_jail.specs.Tree.{at, changed, dead_jail, is_alive, path_at, stop}
 use Rattle.vn_jail.proofs.Numbers.{within}
-use Rattle.vn_jail.proofs.Trees.{long}
+use Rattle.vn_jail.proofs.Changes.{long}
 use Rattle.vn_jail.proofs.Tables.{ends-within, kept-ended, label-of, test-same, written}
 use Rattle.vn_jail.proofs.jails.Jails.remove.Goals as goal
 
