@@ -85,7 +85,12 @@ fn put_tick(milliseconds: u64, out: &mut Vec<u8>) -> Result<(), NoMemory>
 }
 
 /// An event of a lane at a path.
-fn put_lane_event(verb: &[u8], lane: u8, path: &Path, out: &mut Vec<u8>) -> Result<(), NoMemory>
+pub(crate) fn put_lane_event(
+    verb: &[u8],
+    lane: u8,
+    path: &Path,
+    out: &mut Vec<u8>,
+) -> Result<(), NoMemory>
     ensures put { OnOk result (out.new.items ≡ out.old.items ++ lane_event verb.now lane path.now) }
     ensures front { StartsWith out.new.items out.old.items }
 {

@@ -9,11 +9,13 @@ mod put;
 mod report;
 mod section;
 mod transcript;
+mod watch;
 
 pub use command::write_command;
 pub use history::write_history;
 pub use laws::law_of_reports;
 pub use report::{write_report, write_sections};
+pub use watch::write_watches;
 
 #[cfg(test)]
 mod tests;

@@ -91,7 +91,9 @@ cmd 1 host jail -c name=a vnet persist
 fn a_report_is_its_transcripts_and_its_history(rt: HostRuntime) -> Result<(), Fail> {
     let report = report(&rt)?;
     let mut out = Vec::new(rt.alloc());
-    write_sections(&report, &mut out).ok().ok_or("no memory")?;
+    write_sections(&report, None, &mut out)
+        .ok()
+        .ok_or("no memory")?;
     assert_eq!(rt; out.as_slice(), TRANSCRIPTS.as_bytes());
     write_history(&report.history, &mut out)
         .ok()

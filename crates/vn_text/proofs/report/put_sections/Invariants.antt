@@ -1,11 +1,8 @@
-use Rattle.std.proofs.Common.{◌≡◌, ◌++◌, take}
-use Rattle.std.specs.Io.{StartsWith}
+use Rattle.std.proofs.Common.{take}
 use Rattle.std.specs.List.{flat_map}
-use Rattle.vn_cells.specs.texts.Text.{section_text}
+use Rattle.vn_text.specs.Whole.{chosen_text, given}
+use Rattle.vn_text.proofs.Putting.{IsPut}
 use Rattle.vn_text.proofs.report.put_sections.Given as goal
 
 abbrev pub invariant-loop-section : goal.invariant-loop-section
-invariant-loop-section l = record {
-  so_far : l.out.items ≡ l.fn.out.items ++ flat_map (λ s. section_text s.path s.entries) (take l.section-index l.sections);
-  front : StartsWith l.out.items l.fn.out.items;
-}
+invariant-loop-section l = IsPut l.fn.out.items l.out.items (flat_map (chosen_text (given l.only)) (take l.section-index l.sections))
