@@ -1,11 +1,11 @@
-ghost use Rattle.std.specs.Prelude.{◌≡◌, ◌<◌, ◌↔◌, ℕ, [], IfErr, IfOk, IsErr, IsTrue, OnErr, OnOk, Some, length, map, true};
+ghost use Rattle.std.specs.Prelude.{◌≡◌, ◌<◌, ◌↔◌, ℕ, [], IfErr, IfOk, IfSome, IsErr, IsTrue, OnErr, OnOk, Some, length, map};
 ghost use Rattle.std.specs.Option.{ForSome};
 ghost use Rattle.vn_types.specs.Interfaces.{half_id_eq};
 ghost use Rattle.vn_types.specs.PerStack.{ChangesOnly};
 ghost use Rattle.vn_types.specs.Refusals.{IsRefusedBy, first_refusal};
 ghost use Rattle.vn_rules.specs.SocketRefusals.{bind_refusals, closed_refusals, connect_refusals, open_refusals, recv_refusals, send_refusals};
 ghost use Rattle.vn_rules.specs.Sockets.{after_bind, after_close, after_connect, after_open, after_recv, after_sent, cleared, first_gram, has_sender, is_full_at, refused_by, socket_for, socket_named, unbound, unheard, with_gram, with_ttl};
-ghost use Rattle.vn_sock.specs.Plans.{IsPlanOf, may_send_from};
+ghost use Rattle.vn_sock.specs.Plans.{IsPlanOf};
 ghost use Rattle.vn_sock.specs.Stacks.{of};
 
 use crate::plan::SendPlan;
@@ -124,7 +124,6 @@ impl Socks {
 
     /// A datagram went out from the port, which an unbound socket has from now on.
     pub fn sent(&mut self, sid: Sid, name: &SockName, sport: u16)
-        requires { may_send_from name.now sport (of self.old sid.0) ≡ true }
         ensures bound { of self.new sid.0 ≡ after_sent name.now sport (of self.old sid.0) }
         ensures others { ChangesOnly sid.0 (of self.old) (of self.new) }
     {
@@ -183,7 +182,8 @@ impl Socks {
 
     /// The place of the socket that a datagram is for, in order of opening, counted from 0 (RFC 768).
     pub fn demux(&self, sid: Sid, dst: Ip4, dport: u16, src: Ip4, sport: u16) -> Option<u64>
-        ensures { result ≡ socket_for dst dport src sport (of self.now sid.0) }
+        ensures place { result ≡ socket_for dst dport src sport (of self.now sid.0) }
+        ensures within { IfSome result (λ place. place < length (of self.now sid.0)) }
     {
         self.stacks.at(sid)?.demux(dst, dport, src, sport)
     }

@@ -1,4 +1,4 @@
-ghost use Rattle.std.specs.Prelude.{◌≡◌, ◌<◌, ◌↔◌, IfErr, IfOk, IsErr, IsTrue, OnErr, OnOk, Some, length};
+ghost use Rattle.std.specs.Prelude.{◌≡◌, ◌<◌, ◌↔◌, IfErr, IfOk, IfSome, IsErr, IsTrue, OnErr, OnOk, Some, length};
 ghost use Rattle.std.specs.Option.{ForSome};
 ghost use Rattle.vn_types.specs.Refusals.{IsRefusedBy, first_refusal};
 ghost use Rattle.vn_rules.specs.SocketRefusals.{recv_refusals, send_refusals};
@@ -82,7 +82,8 @@ impl Sockets {
 
     /// The place of the socket that a datagram is for.
     pub(crate) fn demux(&self, dst: Ip4, dport: u16, src: Ip4, sport: u16) -> Option<u64>
-        ensures { result ≡ socket_for dst dport src sport self.now }
+        ensures place { result ≡ socket_for dst dport src sport self.now }
+        ensures within { IfSome result (λ place. place < length self.now) }
     {
         let place = self
             .items
