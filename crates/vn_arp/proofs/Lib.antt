@@ -1,3 +1,5 @@
 pub mod Numbers
 pub mod Rows
 pub mod Removal
+pub mod Edits
+pub mod Followed

@@ -27,7 +27,7 @@ module _ {A : Type 0} where
   all_by_both P Q R then [] ps qs = ps
   all_by_both P Q R then (x ∷ xs) ps qs = (then x ps.0 qs.0, all_by_both P Q R then xs ps.1 qs.1)
 
-  all_from_none : (p : A → Bool) (xs : List A) → list_any p xs ≡ false → AllByRecursion (λ x. p x ≡ false) xs
+  pub all_from_none : (p : A → Bool) (xs : List A) → list_any p xs ≡ false → AllByRecursion (λ x. p x ≡ false) xs
   all_from_none p [] none = tt
   all_from_none p (x ∷ xs) none = let parts = or_parts (p x) _ none in (parts.0, all_from_none p xs parts.1)
 

@@ -1,16 +1,17 @@
 -- What the calls answer.
-use Rattle.std.specs.Prelude.{ℕ, Bool, true, List, Option, Some, None, if◌then◌else◌}
-use Rattle.std.specs.Prelude.{is_some, ◌||◌}
+use Rattle.std.specs.Prelude.{ℕ, Bool, ◌==◌, ◌||◌, is_some, List, Option, Some, None, if◌then◌else◌}
 use Rattle.vn_types.specs.declared.address.Ip4.{Ip4}
 use Rattle.vn_types.specs.declared.address.Mac.{Mac}
 use Rattle.vn_rules.specs.declared.arp.ArpEntryOf.{ArpEntryOf}
 use Rattle.vn_rules.specs.declared.parts.PartsOf.{PartsOf}
 use Rattle.vn_rules.specs.Arp.{hit, is_down}
 use Rattle.vn_rules.specs.Resolution.{asks, drops_oldest, after_hold, TurnOf, Ask, GivesUp, Removed}
+use Rattle.vn_link.specs.declared.arp.ArpPacket.{ArpPacket}
 use Rattle.vn_arp.specs.declared.answers.Resolved.{Resolved}
 use Rattle.vn_arp.specs.declared.answers.Resolved.TheVariants as resolved
 use Rattle.vn_arp.specs.declared.answers.Turn.{Turn}
 use Rattle.vn_arp.specs.declared.answers.Turn.TheVariants as turn
+use Rattle.vn_arp.specs.declared.table.TheConstants.{REQUEST}
 
 -- the answer about a datagram, by the neighbour's hardware address, where that is known, and whether the
 -- neighbour is down; where it is held, whether a request goes out and whether the oldest gave way
@@ -24,6 +25,10 @@ abbrev pub turn_as : TurnOf → Turn
 turn_as Ask = turn.Ask
 turn_as (GivesUp held) = turn.WentDown held
 turn_as Removed = turn.Removed
+
+-- whether a packet asks (RFC 826, "ares_op$REQUEST")
+abbrev pub is_request : ArpPacket → Bool
+is_request packet = packet.op == REQUEST
 
 module _ {N : Type 0} (same : N → N → Bool) where
   -- the answer about a datagram to an address on a half

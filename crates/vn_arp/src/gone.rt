@@ -17,6 +17,7 @@ pub(crate) trait Gone {
 }
 
 /// The entry of the address on the half.
+#[derive(Clone, Copy)]
 pub(crate) struct At {
     pub(crate) half: HalfId,
     pub(crate) ip: Ip4,
@@ -34,6 +35,7 @@ impl Gone for At {
 }
 
 /// The entries of the address, on whatever half.
+#[derive(Clone, Copy)]
 pub(crate) struct OfAddress(pub(crate) Ip4);
 
 impl Gone for OfAddress {
@@ -47,6 +49,7 @@ impl Gone for OfAddress {
 }
 
 /// The entries on the half.
+#[derive(Clone, Copy)]
 pub(crate) struct On(pub(crate) HalfId);
 
 impl Gone for On {
@@ -60,6 +63,7 @@ impl Gone for On {
 }
 
 /// The entries on the half that no interface route of the half covers.
+#[derive(Drop)]
 pub(crate) struct Uncovered<'a, R> {
     pub(crate) sid: Sid,
     pub(crate) half: HalfId,

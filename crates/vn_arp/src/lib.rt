@@ -7,8 +7,11 @@ mod gone;
 mod neighbour;
 mod neighbours;
 mod packets;
+mod resolution;
+mod table;
 mod timers;
 mod times;
 
 pub use answers::{Learned, Resolved, Turn};
 pub use packets::Packets;
+pub use table::ArpTable;
