@@ -1,8 +1,7 @@
 -- An entry that is written in its place, and the numbers that are told then.
 use Rattle.std.proofs.Common.{◌≡◌, ℕ, Bool, true, false, cond, List, [], ◌∷◌, ◌++◌, get_or, Option, Some, None, MatchOption, Result, Ok, Err, OnOk, OnErr, refl, sym, ap, ap₂, subst, ◌∙◌}
-use Rattle.std.specs.Bool.{Decides}
-use Rattle.std.specs.Prelude.{slice_set, IsSome, unwrap_or}
-use Rattle.std.specs.List.{All, position, find, list_any}
+use Rattle.std.specs.Prelude.{slice_set, IsSome}
+use Rattle.std.specs.List.{position, find}
 use Rattle.std.specs.Option.{option_map, option_and_then}
 use Rattle.std.proofs.lemmas.List.Elements.{All-from_recursion}
 use Rattle.vn_types.specs.declared.address.Ip4.{Ip4}
@@ -15,8 +14,8 @@ use Rattle.vn_rules.specs.declared.timer.TimerOf.TheVariants.{Arp}
 use Rattle.vn_rules.specs.Arp.{is_place, is_entry_at, is_timer_where, entry_of, with_entry, on_entry, timer_at, without_timer_at, new_entry}
 use Rattle.vn_rules.specs.Soundness.{has_distinct_entries}
 use Rattle.vn_rules.specs.Timers.{Timed, after_arm, has_timer}
-use Rattle.vn_rules.proofs.ArpPlaces.{AtPlace, place_from_test, new_entry-place}
-use Rattle.vn_rules.proofs.ListTests.{find_passes, found-some, absent-none, unchanged}
+use Rattle.vn_rules.proofs.ArpPlaces.{AtPlace, place_from_test}
+use Rattle.vn_rules.proofs.ListTests.{find_passes, found-some, absent-none}
 use Rattle.vn_arp.specs.Kept.{KeptOf, entries_of, is_kept_at, arm_of, without_numbered, KnowsArms, Tells, IsPut}
 use Rattle.vn_arp.proofs.Numbers.{all_from_none, none-stopped, place_itself, told-alike, none_there as none_told, stopped-there, told-without, told-armed}
 use Rattle.vn_arp.proofs.Rows.{entry_of-kept, found-at, found-nowhere, put-there, put-last, put-distinct}

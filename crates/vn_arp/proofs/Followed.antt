@@ -1,7 +1,7 @@
 -- What was done to the entries and the timers is what the rules say.
-use Rattle.std.proofs.Common.{◌≡◌, ℕ, zero, suc, ◌+◌, Bool, true, false, cond, not, ◌&&◌, ◌||◌, ◌==◌, List, [], ◌∷◌, ◌++◌, map, Option, Some, None, refl, sym, ap, ap₂, subst, ◌∙◌}
+use Rattle.std.proofs.Common.{◌≡◌, ℕ, zero, suc, ◌+◌, Bool, true, false, cond, not, ◌&&◌, ◌||◌, ◌==◌, List, [], ◌∷◌, ◌++◌, Option, Some, None, refl, sym, ap, ap₂, subst, ◌∙◌}
 use Rattle.std.specs.Prelude.{is_some, is_none, slice_set}
-use Rattle.std.specs.List.{filter, list_any}
+use Rattle.std.specs.List.{filter}
 use Rattle.std.specs.Option.{option_map, option_map_or}
 use Rattle.std.proofs.lemmas.Bool.{and_from}
 use Rattle.vn_types.specs.declared.address.Ip4.{Ip4}
@@ -65,9 +65,9 @@ module _ (rows new : List Kept) (t after : TimersOf HalfId) where
     unfolding after_hold
     held now octets there is at = record {
       parts = λ p.
-        same_parts _ _ is at p
-        ∙ ap (λ b. cond b (timed_entry half_id_eq (now + request_time) half ip (holding octets) (parts_with rows t p)) (record p { arp = with_entry half_id_eq half ip (holding octets) (entries_of rows); timers = t }))
-        (sym (some_there found there));
+          same_parts _ _ is at p
+          ∙ ap (λ b. cond b (timed_entry half_id_eq (now + request_time) half ip (holding octets) (parts_with rows t p)) (record p { arp = with_entry half_id_eq half ip (holding octets) (entries_of rows); timers = t }))
+          (sym (some_there found there));
     }
 
     pub held_first : (now : ℕ) (octets : List ℕ) → is_some found ≡ false → entries_of new ≡ entries_of rows ++ holding octets (new_entry half ip) ∷ [] → after ≡ after_arm (now + request_time) (Arp half ip) t
@@ -75,9 +75,9 @@ module _ (rows new : List Kept) (t after : TimersOf HalfId) where
     unfolding after_hold
     held_first now octets absent is at = record {
       parts = λ p.
-        same_parts _ _ (is ∙ put_new half ip (holding octets) (entries_of rows) (none_there found absent)) at p
-        ∙ ap (λ b. cond b (timed_entry half_id_eq (now + request_time) half ip (holding octets) (parts_with rows t p)) (record p { arp = with_entry half_id_eq half ip (holding octets) (entries_of rows); timers = t }))
-        (sym (ap is_none (none_there found absent)));
+          same_parts _ _ (is ∙ put_new half ip (holding octets) (entries_of rows) (none_there found absent)) at p
+          ∙ ap (λ b. cond b (timed_entry half_id_eq (now + request_time) half ip (holding octets) (parts_with rows t p)) (record p { arp = with_entry half_id_eq half ip (holding octets) (entries_of rows); timers = t }))
+          (sym (ap is_none (none_there found absent)));
     }
 
     -- ---- a packet tells the hardware address
@@ -98,9 +98,9 @@ module _ (rows new : List Kept) (t after : TimersOf HalfId) where
       unfolding after_input learn_if
       learnt_first known apart target absent is at = record {
         parts = λ p.
-          same_parts _ _ (is ∙ put_new half ip (resolved Learnt mac) (entries_of rows) (none_there found absent))
-          (at ∙ ap (after_arm (now + learnt_time) (Arp half ip)) (untimed_absent half ip rows t known (none_there found absent))) p
-          ∙ ap₂ (λ b c. learn_if (b || c) (parts_with rows t p)) (sym apart) (sym (and_from is_target (is_none found) target (ap is_none (none_there found absent))));
+            same_parts _ _ (is ∙ put_new half ip (resolved Learnt mac) (entries_of rows) (none_there found absent))
+            (at ∙ ap (after_arm (now + learnt_time) (Arp half ip)) (untimed_absent half ip rows t known (none_there found absent))) p
+            ∙ ap₂ (λ b c. learn_if (b || c) (parts_with rows t p)) (sym apart) (sym (and_from is_target (is_none found) target (ap is_none (none_there found absent))));
       }
 
       pub not_learnt : merges half_id_eq half ip (entries_of rows) ≡ false → adds half_id_eq half ip is_target (entries_of rows) ≡ false → entries_of new ≡ entries_of rows → after ≡ t

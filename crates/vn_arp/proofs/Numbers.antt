@@ -1,22 +1,21 @@
 -- The timers that stand are those whose numbers are told, as timers are stopped and armed.
 use Rattle.std.proofs.Common.{◌≡◌, ℕ, ◌<◌, ◌+◌, Bool, true, false, cond, not, ◌==◌, List, [], ◌∷◌, Option, Some, None, IfSome, refl, sym, ap, ap₂, subst, ◌∙◌, arith}
 use Rattle.std.specs.Bool.{Decides}
-use Rattle.std.specs.List.{All, AllByRecursion, list_any, filter, find}
+use Rattle.std.specs.List.{All, AllByRecursion, list_any, filter}
 use Rattle.std.specs.Ordering.{match_ordering}
 use Rattle.std.specs.declared.cmp.Ordering.{Ordering}
 use Rattle.std.specs.declared.cmp.Ordering.TheVariants.{Less, Equal, Greater}
 use Rattle.std.specs.BTreeMap.{insert_entry}
-use Rattle.std.proofs.lemmas.Bool.{and_parts, or_parts, both_ways, false_from_ne_true, eq-eqb, eqb-true}
+use Rattle.std.proofs.lemmas.Bool.{or_parts, both_ways, false_from_ne_true, eq-eqb, eqb-true}
 use Rattle.std.proofs.lemmas.Bool.Decides.{nat_tests}
 use Rattle.std.proofs.lemmas.List.Elements.{All-from_recursion, recursion_from_All, All-filter, All-weaker, filter_passes}
 use Rattle.vn_types.specs.declared.address.Ip4.{Ip4}
 use Rattle.vn_rules.specs.declared.timer.TimerOf.{TimerOf}
 use Rattle.vn_rules.specs.declared.timer.TimerOf.TheVariants.{Arp, Ping}
 use Rattle.vn_rules.specs.declared.timer.TimersOf.{TimersOf}
-use Rattle.vn_rules.specs.Arp.{is_timer_where, is_place, without_timers_where, without_timer_at, timer_at}
+use Rattle.vn_rules.specs.Arp.{is_timer_where, is_place, without_timers_where, without_timer_at}
 use Rattle.vn_rules.specs.Timers.{Turn, turn_cmp, Timed, after_arm, has_timer}
-use Rattle.vn_rules.proofs.ArpPlaces.{AtPlace, place_from_test, test_from_place}
-use Rattle.vn_rules.proofs.ListTests.{all_kept, absent-none}
+use Rattle.vn_rules.proofs.ArpPlaces.{place_from_test, test_from_place}
 use Rattle.vn_arp.specs.Kept.{is_numbered, without_numbered, Tells}
 
 -- ---- lists
@@ -123,8 +122,8 @@ module _ {N : Type 0} (same : N → N → Bool) (decides : (g h : N) → Decides
     stopped-there half ip = λ i. record {
       armed = t.armed;
       standing = filter_alike (λ (e : Timed N). not (is_numbered (arms half ip) e)) (λ (e : Timed N). not (is_timer_where (is_place same half ip) e.1)) t.standing
-        (recursion_from_All (λ (e : Timed N). not (is_numbered (arms half ip) e) ≡ not (is_timer_where (is_place same half ip) e.1)) t.standing
-        (All-weaker (λ (e : Timed N). is_timer_where (is_place same half ip) e.1 ≡ is_numbered (arms half ip) e) (λ (e : Timed N). not (is_numbered (arms half ip) e) ≡ not (is_timer_where (is_place same half ip) e.1)) (λ e is. ap not (sym is)) t.standing (known.tells half ip))) i;
+          (recursion_from_All (λ (e : Timed N). not (is_numbered (arms half ip) e) ≡ not (is_timer_where (is_place same half ip) e.1)) t.standing
+          (All-weaker (λ (e : Timed N). is_timer_where (is_place same half ip) e.1 ≡ is_numbered (arms half ip) e) (λ (e : Timed N). not (is_numbered (arms half ip) e) ≡ not (is_timer_where (is_place same half ip) e.1)) (λ e is. ap not (sym is)) t.standing (known.tells half ip))) i;
     }
 
     -- the timers of some places go, and their numbers

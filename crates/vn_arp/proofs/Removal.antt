@@ -1,5 +1,5 @@
 -- Entries go with the timers of their numbers.
-use Rattle.std.proofs.Common.{◌≡◌, ℕ, Bool, true, false, cond, not, ◌&&◌, ◌||◌, List, [], ◌∷◌, Option, Some, None, refl, sym, ap, ◌∙◌}
+use Rattle.std.proofs.Common.{◌≡◌, Bool, true, false, cond, not, ◌&&◌, ◌||◌, List, [], ◌∷◌, Option, Some, None, refl, sym, ap, ◌∙◌}
 use Rattle.std.specs.Bool.{Decides}
 use Rattle.std.specs.List.{AllByRecursion, list_any, filter, find}
 use Rattle.std.specs.Option.{option_and_then}
@@ -110,7 +110,7 @@ module _ {N : Type 0} (same : N → N → Bool) (decides : (g h : N) → Decides
           numbered = sym (is (own, ip)) ∙ place_itself same decides own ip
 
           by : (o : Option (KeptOf N)) → find (is_kept_at same own ip) rows ≡ o → is_stopped rows (turn, Arp own ip) ≡ true
-          by None absent = cc (ap (λ o. is_numbered (option_and_then (λ (k : KeptOf N). k.arm) o) (turn, Arp own ip)) absent, numbered)
+          by None absent = cc (absent, numbered)
           by (Some k) found =
               found_both (is_kept_at same own ip) (λ (k : KeptOf N). goes same decides gone k && is_numbered k.arm (turn, Arp own ip)) rows
               (λ x is here. and_from _ _ (let there = place_from_test same decides own ip x.entry.half x.entry.ip here in (λ i. gone (there.halves i) (there.addresses i)) ∙ going)
@@ -130,10 +130,12 @@ module _ {N : Type 0} (same : N → N → Bool) (decides : (g h : N) → Decides
       pub gone-stopped : without_gone gone rows t ≡ without_timers_where gone t
       gone-stopped =
           all_stopped rows t
-          ∙ (λ i. record t { standing = filter_alike (λ e. not (is_stopped rows e)) (λ (e : Timed N). not (is_timer_where gone e.1)) t.standing
-            (weaker IsKnown (λ (e : Timed N). not (is_stopped rows e) ≡ not (is_timer_where gone e.1)) alike t.standing
-            (each_case (λ (place : N × Ip4) (e : Timed N). is_timer_where (is_place same place.0 place.1) e.1 ≡ is_numbered (arm_of same place.0 place.1 rows) e) t.standing
-            (λ place. recursion_from_All (λ (e : Timed N). is_timer_where (is_place same place.0 place.1) e.1 ≡ is_numbered (arm_of same place.0 place.1 rows) e) t.standing (known.tells place.0 place.1)))) i })
+          ∙ (λ i. record t {
+            standing = filter_alike (λ e. not (is_stopped rows e)) (λ (e : Timed N). not (is_timer_where gone e.1)) t.standing
+                (weaker IsKnown (λ (e : Timed N). not (is_stopped rows e) ≡ not (is_timer_where gone e.1)) alike t.standing
+                (each_case (λ (place : N × Ip4) (e : Timed N). is_timer_where (is_place same place.0 place.1) e.1 ≡ is_numbered (arm_of same place.0 place.1 rows) e) t.standing
+                (λ place. recursion_from_All (λ (e : Timed N). is_timer_where (is_place same place.0 place.1) e.1 ≡ is_numbered (arm_of same place.0 place.1 rows) e) t.standing (known.tells place.0 place.1)))) i;
+          })
 
       pub knows-left : KnowsArms same (left same decides gone rows) (without_timers_where gone t)
       knows-left = told-without same decides (λ half ip. arm_of same half ip rows) t known gone (λ half ip. arm_of same half ip (left same decides gone rows)) (arms_left same decides gone rows)

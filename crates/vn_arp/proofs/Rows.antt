@@ -1,10 +1,10 @@
 -- The entry of an address on a half among the entries that are kept: found, changed in its place, made last, removed.
-use Rattle.std.proofs.Common.{◌≡◌, ℕ, suc, ◌<◌, ◌≤◌, ◌+◌, Bool, true, false, cond, not, ◌&&◌, ◌||◌, ◌==◌, List, [], ◌∷◌, ◌++◌, length, map, get_or, Option, Some, None, refl, sym, ap, ap₂, ◌∙◌, arith}
+use Rattle.std.proofs.Common.{◌≡◌, ℕ, suc, ◌<◌, ◌≤◌, ◌+◌, Bool, true, false, cond, not, ◌||◌, List, [], ◌∷◌, ◌++◌, length, map, get_or, Option, Some, None, refl, sym, ap, ◌∙◌, arith}
 use Rattle.std.specs.Bool.{Decides}
-use Rattle.std.specs.Prelude.{nat_lt, slice_get, slice_set, slice_index_or, unwrap_or}
+use Rattle.std.specs.Prelude.{nat_lt, slice_set, unwrap_or}
 use Rattle.std.specs.List.{find, filter, list_any, position, position_or_len}
 use Rattle.std.specs.Option.{option_map, option_and_then, option_or}
-use Rattle.std.proofs.lemmas.Bool.{and_parts, and_from, or_parts, both_ways, false_from_ne_true, ltb-true, ltb-false, not-true}
+use Rattle.std.proofs.lemmas.Bool.{and_parts, and_from, both_ways, ltb-true, ltb-false, not-true}
 use Rattle.std.proofs.lemmas.List.{map-append}
 use Rattle.std.proofs.lemmas.List.Folds.{find-append}
 use Rattle.vn_types.specs.declared.address.Ip4.{Ip4}
@@ -13,9 +13,9 @@ use Rattle.vn_rules.specs.declared.arp.ArpEntryOf.{ArpEntryOf}
 use Rattle.vn_rules.specs.Arp.{new_entry, is_place, is_entry_at, entry_of, with_entry}
 use Rattle.vn_rules.specs.Orders.{are_distinct}
 use Rattle.vn_rules.specs.Soundness.{has_distinct_entries}
-use Rattle.vn_rules.proofs.ArpPlaces.{AtPlace, place_from_test, base, base-place, one_there, with_entry-put, distinct_put, new_entry-place}
+use Rattle.vn_rules.proofs.ArpPlaces.{place_from_test, base, base-place, one_there, with_entry-put, distinct_put}
 use Rattle.vn_rules.proofs.ListEdits.{edit_map_same}
-use Rattle.vn_rules.proofs.ListTests.{both_pass, unchanged, distinct_map_same, distinct_filter, absent-none, found-some, find_passes, none_weaker}
+use Rattle.vn_rules.proofs.ListTests.{both_pass, unchanged, distinct_map_same, distinct_filter, absent-none, found-some, none_weaker}
 use Rattle.vn_arp.specs.Kept.{KeptOf, entries_of, is_kept_at, arm_of, IsPut}
 use Rattle.vn_arp.proofs.Numbers.{place_turned}
 
@@ -112,9 +112,9 @@ module _ {N : Type 0} (same : N → N → Bool) (decides : (g h : N) → Decides
       pub put-there : (f : ArpEntryOf N → ArpEntryOf N) → k.entry ≡ f (get_or rows place d).entry → IsPut same half ip f k.arm rows (slice_set rows place k)
       put-there f by_f = record {
         entries =
-          entries_changed
-          ∙ ap (λ e. with_entry same half ip (λ _. e) (entries_of rows)) (by_f ∙ ap f (sym (ap (λ o. unwrap_or o (new_entry half ip)) found)))
-          ∙ sym (with_entry-put same decides half ip f (entries_of rows) one);
+            entries_changed
+            ∙ ap (λ e. with_entry same half ip (λ _. e) (entries_of rows)) (by_f ∙ ap f (sym (ap (λ o. unwrap_or o (new_entry half ip)) found)))
+            ∙ sym (with_entry-put same decides half ip f (entries_of rows) one);
         arms = λ own at. ap (option_and_then (λ (k : KeptOf N). k.arm)) (ap (find (is_kept_at same own at)) changed) ∙ by own at (is_place same half ip own at) refl;
       }
         where
@@ -155,8 +155,8 @@ module _ {N : Type 0} (same : N → N → Bool) (decides : (g h : N) → Decides
       pub put-last : (f : ArpEntryOf N → ArpEntryOf N) → k.entry ≡ f (new_entry half ip) → IsPut same half ip f k.arm rows (rows ++ k ∷ [])
       put-last f by_f = record {
         entries =
-          map-append (λ (k : KeptOf N). k.entry) rows (k ∷ []) ∙ ap (λ e. entries_of rows ++ e ∷ []) by_f
-          ∙ ap (λ b. cond b (map (λ e. cond (is_entry_at same half ip e) (f e) e) (entries_of rows)) (entries_of rows ++ f (new_entry half ip) ∷ [])) (sym none_there);
+            map-append (λ (k : KeptOf N). k.entry) rows (k ∷ []) ∙ ap (λ e. entries_of rows ++ e ∷ []) by_f
+            ∙ ap (λ b. cond b (map (λ e. cond (is_entry_at same half ip e) (f e) e) (entries_of rows)) (entries_of rows ++ f (new_entry half ip) ∷ [])) (sym none_there);
         arms = λ own at. ap (option_and_then (λ (k : KeptOf N). k.arm)) (find-append (is_kept_at same own at) rows (k ∷ [])) ∙ by own at (is_place same half ip own at) refl;
       }
         where

@@ -4,6 +4,7 @@
 
 mod answers;
 mod gone;
+mod lookups;
 mod neighbour;
 mod neighbours;
 mod packets;

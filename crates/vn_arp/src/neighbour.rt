@@ -39,10 +39,15 @@ impl Model for Neighbour {
     ghost Value = { KeptOf HalfId };
 
     ghost view = { λ n. record {
-        entry = record {
-            half = n.half; ip = n.ip; state = n.state; mac = n.mac; requests = n.requests; held = n.held
-        };
-        arm = n.arm
+      entry = record {
+        half = n.half;
+        ip = n.ip;
+        state = n.state;
+        mac = n.mac;
+        requests = n.requests;
+        held = n.held;
+      };
+      arm = n.arm;
     } };
 }
 
@@ -145,7 +150,12 @@ impl Neighbour {
     }
 
     /// Arms its timer.
-    pub(crate) fn start(&mut self, deadline: u64, sid: Sid, wheel: &mut Wheel) -> Result<(), NoMemory>
+    pub(crate) fn start(
+        &mut self,
+        deadline: u64,
+        sid: Sid,
+        wheel: &mut Wheel,
+    ) -> Result<(), NoMemory>
         requires { (timers_of wheel.old sid.0).armed < 2 ^ 63 }
         ensures armed { OnOk result (timers_of wheel.new sid.0
             ≡ after_arm deadline (Arp self.old.entry.half self.old.entry.ip) (timers_of wheel.old sid.0)) }
@@ -183,7 +193,9 @@ impl Neighbour {
         requires armed { (timers_of wheel.old sid.0).armed < 2 ^ 63 }
         requires few { self.old.entry.requests < REQUESTS_MAX }
         ensures asked { OnOk result (self.new ≡ record {
-            entry = asked self.old.entry; arm = Some (timers_of wheel.old sid.0).armed }) }
+          entry = asked self.old.entry;
+          arm = Some (timers_of wheel.old sid.0).armed;
+        }) }
         ensures armed { OnOk result (timers_of wheel.new sid.0
             ≡ after_arm (now + request_time) (Arp self.old.entry.half self.old.entry.ip)
             (timers_of wheel.old sid.0)) }
@@ -203,7 +215,9 @@ impl Neighbour {
         requires clock { now < 2 ^ 63 }
         requires armed { (timers_of wheel.old sid.0).armed < 2 ^ 63 }
         ensures given_up { OnOk result (self.new ≡ record {
-            entry = given_up self.old.entry; arm = Some (timers_of wheel.old sid.0).armed }) }
+          entry = given_up self.old.entry;
+          arm = Some (timers_of wheel.old sid.0).armed;
+        }) }
         ensures armed { OnOk result (timers_of wheel.new sid.0
             ≡ after_arm (now + down_time) (Arp self.old.entry.half self.old.entry.ip)
             (timers_of wheel.old sid.0)) }
@@ -233,12 +247,20 @@ impl Neighbour {
     }
 
     /// Its hardware address is learnt, with a new timer. What waited for it is handed out.
-    pub(crate) fn learn(&mut self, mac: Mac, now: u64, sid: Sid, wheel: &mut Wheel) -> Result<Packets, NoMemory>
+    pub(crate) fn learn(
+        &mut self,
+        mac: Mac,
+        now: u64,
+        sid: Sid,
+        wheel: &mut Wheel,
+    ) -> Result<Packets, NoMemory>
         requires clock { now < 2 ^ 63 }
         requires armed { (timers_of wheel.old sid.0).armed < 2 ^ 63 }
         ensures released { IfOk result (λ release. release ≡ self.old.entry.held) }
         ensures learnt { OnOk result (self.new ≡ record {
-            entry = resolved Learnt mac self.old.entry; arm = Some (timers_of wheel.old sid.0).armed }) }
+          entry = resolved Learnt mac self.old.entry;
+          arm = Some (timers_of wheel.old sid.0).armed;
+        }) }
         ensures restarted { OnOk result (timers_of wheel.new sid.0
             ≡ after_arm (now + learnt_time) (Arp self.old.entry.half self.old.entry.ip)
             (without_numbered self.old.arm (timers_of wheel.old sid.0))) }

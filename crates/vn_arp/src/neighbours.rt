@@ -59,44 +59,24 @@ impl Empty for Neighbours {
 }
 
 impl Neighbours {
-    fn find(&self, half: HalfId, ip: Ip4) -> Option<&Neighbour>
+    /// The entry of the address on the half.
+    pub(crate) fn find(&self, half: HalfId, ip: Ip4) -> Option<&Neighbour>
         ensures { MatchOption result
             (entry_of half_id_eq half ip (entries_of self.now) ≡ None)
             (λ n. entry_of half_id_eq half ip (entries_of self.now) ≡ Some n.now.entry) }
     {
-        self.entries.iter().find(|neighbour| neighbour.is_at(half, ip))
+        self.entries
+            .iter()
+            .find(|neighbour| neighbour.is_at(half, ip))
     }
 
+    /// Its place.
     fn place(&self, half: HalfId, ip: Ip4) -> Option<usize>
         ensures { result ≡ position (is_kept_at half_id_eq half ip) self.now }
     {
         self.entries
             .iter()
             .position(|neighbour| neighbour.is_at(half, ip))
-    }
-
-    /// The hardware address of a neighbour, where it is known.
-    pub(crate) fn hit(&self, half: HalfId, ip: Ip4) -> Option<Mac>
-        ensures { result ≡ hit half_id_eq half ip (entries_of self.now) }
-    {
-        self.find(half, ip)?.known_mac()
-    }
-
-    /// Whether a neighbour does not reply.
-    pub(crate) fn is_down(&self, half: HalfId, ip: Ip4) -> bool
-        ensures { result ≡ is_down half_id_eq half ip (entries_of self.now) }
-    {
-        match self.find(half, ip) {
-            Some(neighbour) => neighbour.is_down(),
-            None => false,
-        }
-    }
-
-    /// Whether there is an entry for the address on the half.
-    pub(crate) fn has(&self, half: HalfId, ip: Ip4) -> bool
-        ensures { result ≡ is_some (entry_of half_id_eq half ip (entries_of self.now)) }
-    {
-        self.find(half, ip).is_some()
     }
 
     /// Whether there is an entry for the address on some half.
@@ -108,30 +88,18 @@ impl Neighbours {
             .any(|neighbour| neighbour.ip().0 == ip.0)
     }
 
-    /// Whether a neighbour has an entry that was not set by hand.
-    pub(crate) fn merges(&self, half: HalfId, ip: Ip4) -> bool
-        ensures { result ≡ merges half_id_eq half ip (entries_of self.now) }
-    {
-        match self.find(half, ip) {
-            Some(neighbour) => !neighbour.is_static(),
-            None => false,
-        }
-    }
-
-    /// What a neighbour's timer does.
-    pub(crate) fn next_turn(&self, half: HalfId, ip: Ip4) -> Option<Turn>
-        ensures { result ≡ option_map (λ (e : ArpEntryOf HalfId). turn_as (turn_of e))
-            (entry_of half_id_eq half ip (entries_of self.now)) }
-    {
-        Some(self.find(half, ip)?.turn())
-    }
-
     pub(crate) fn allocator(&self) -> Global {
         *self.entries.allocator()
     }
 
     /// Adds an entry that is not there yet, with its timer.
-    pub(crate) fn add(&mut self, mut neighbour: Neighbour, deadline: u64, sid: Sid, wheel: &mut Wheel) -> Result<(), NoMemory>
+    pub(crate) fn add(
+        &mut self,
+        mut neighbour: Neighbour,
+        deadline: u64,
+        sid: Sid,
+        wheel: &mut Wheel,
+    ) -> Result<(), NoMemory>
         requires armed { (timers_of wheel.old sid.0).armed < 2 ^ 63 }
         requires knows { KnowsArms half_id_eq self.old (timers_of wheel.old sid.0) }
         requires absent { entry_of half_id_eq neighbour.entry.half neighbour.entry.ip (entries_of self.old)
@@ -180,7 +148,15 @@ impl Neighbours {
     }
 
     /// The hardware address of a neighbour is learnt. What waited for it is handed out.
-    pub(crate) fn learn(&mut self, half: HalfId, ip: Ip4, mac: Mac, now: u64, sid: Sid, wheel: &mut Wheel) -> Result<Packets, NoMemory>
+    pub(crate) fn learn(
+        &mut self,
+        half: HalfId,
+        ip: Ip4,
+        mac: Mac,
+        now: u64,
+        sid: Sid,
+        wheel: &mut Wheel,
+    ) -> Result<Packets, NoMemory>
         requires clock { now < 2 ^ 63 }
         requires armed { (timers_of wheel.old sid.0).armed < 2 ^ 63 }
         requires knows { KnowsArms half_id_eq self.old (timers_of wheel.old sid.0) }
@@ -202,7 +178,14 @@ impl Neighbours {
     }
 
     /// One request more is sent to a neighbour, whose timer stands no more.
-    pub(crate) fn ask(&mut self, half: HalfId, ip: Ip4, now: u64, sid: Sid, wheel: &mut Wheel) -> Result<(), NoMemory>
+    pub(crate) fn ask(
+        &mut self,
+        half: HalfId,
+        ip: Ip4,
+        now: u64,
+        sid: Sid,
+        wheel: &mut Wheel,
+    ) -> Result<(), NoMemory>
         requires clock { now < 2 ^ 63 }
         requires armed { (timers_of wheel.old sid.0).armed < 2 ^ 63 }
         requires knows { KnowsArms half_id_eq self.old (timers_of wheel.old sid.0) }
@@ -225,7 +208,14 @@ impl Neighbours {
     }
 
     /// A neighbour does not reply: nothing waits for it any more. Its timer stands no more.
-    pub(crate) fn give_up(&mut self, half: HalfId, ip: Ip4, now: u64, sid: Sid, wheel: &mut Wheel) -> Result<(), NoMemory>
+    pub(crate) fn give_up(
+        &mut self,
+        half: HalfId,
+        ip: Ip4,
+        now: u64,
+        sid: Sid,
+        wheel: &mut Wheel,
+    ) -> Result<(), NoMemory>
         requires clock { now < 2 ^ 63 }
         requires armed { (timers_of wheel.old sid.0).armed < 2 ^ 63 }
         requires knows { KnowsArms half_id_eq self.old (timers_of wheel.old sid.0) }
@@ -246,7 +236,14 @@ impl Neighbours {
     }
 
     /// The hardware address of a neighbour is set by hand. What waited for it is handed out.
-    pub(crate) fn set(&mut self, half: HalfId, ip: Ip4, mac: Mac, sid: Sid, wheel: &mut Wheel) -> Packets
+    pub(crate) fn set(
+        &mut self,
+        half: HalfId,
+        ip: Ip4,
+        mac: Mac,
+        sid: Sid,
+        wheel: &mut Wheel,
+    ) -> Packets
         requires knows { KnowsArms half_id_eq self.old (timers_of wheel.old sid.0) }
         requires there { IsSome (entry_of half_id_eq half ip (entries_of self.old)) }
         ensures released { result ≡ held_for half_id_eq half ip (entries_of self.old) }

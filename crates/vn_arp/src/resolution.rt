@@ -24,7 +24,15 @@ use vn_types::{Errno, HalfId, Ip4, Mac, NoMemory, Sid};
 
 impl Neighbours {
     /// What becomes of a datagram to a neighbour.
-    pub(crate) fn resolve(&mut self, half: HalfId, ip: Ip4, packet: Bytes, now: u64, sid: Sid, wheel: &mut Wheel) -> Result<Resolved, NoMemory>
+    pub(crate) fn resolve(
+        &mut self,
+        half: HalfId,
+        ip: Ip4,
+        packet: Bytes,
+        now: u64,
+        sid: Sid,
+        wheel: &mut Wheel,
+    ) -> Result<Resolved, NoMemory>
         requires clock { now < 2 ^ 63 }
         requires armed { (timers_of wheel.old sid.0).armed < 2 ^ 63 }
         requires knows { KnowsArms half_id_eq self.old (timers_of wheel.old sid.0) }
@@ -47,7 +55,15 @@ impl Neighbours {
     }
 
     /// A datagram waits for a neighbour. Tells whether the oldest gave way.
-    fn wait(&mut self, half: HalfId, ip: Ip4, packet: Bytes, now: u64, sid: Sid, wheel: &mut Wheel) -> Result<bool, NoMemory>
+    fn wait(
+        &mut self,
+        half: HalfId,
+        ip: Ip4,
+        packet: Bytes,
+        now: u64,
+        sid: Sid,
+        wheel: &mut Wheel,
+    ) -> Result<bool, NoMemory>
         requires clock { now < 2 ^ 63 }
         requires armed { (timers_of wheel.old sid.0).armed < 2 ^ 63 }
         requires knows { KnowsArms half_id_eq self.old (timers_of wheel.old sid.0) }
@@ -68,7 +84,16 @@ impl Neighbours {
     }
 
     /// A packet of a neighbour tells its hardware address (RFC 826, "Packet Reception").
-    pub(crate) fn input(&mut self, half: HalfId, ip: Ip4, mac: Mac, is_target: bool, now: u64, sid: Sid, wheel: &mut Wheel) -> Result<Packets, NoMemory>
+    pub(crate) fn input(
+        &mut self,
+        half: HalfId,
+        ip: Ip4,
+        mac: Mac,
+        is_target: bool,
+        now: u64,
+        sid: Sid,
+        wheel: &mut Wheel,
+    ) -> Result<Packets, NoMemory>
         requires clock { now < 2 ^ 63 }
         requires armed { (timers_of wheel.old sid.0).armed < 2 ^ 63 }
         requires knows { KnowsArms half_id_eq self.old (timers_of wheel.old sid.0) }
@@ -96,7 +121,14 @@ impl Neighbours {
     }
 
     /// A neighbour's timer was taken out.
-    pub(crate) fn turn(&mut self, half: HalfId, ip: Ip4, now: u64, sid: Sid, wheel: &mut Wheel) -> Result<Turn, NoMemory>
+    pub(crate) fn turn(
+        &mut self,
+        half: HalfId,
+        ip: Ip4,
+        now: u64,
+        sid: Sid,
+        wheel: &mut Wheel,
+    ) -> Result<Turn, NoMemory>
         requires clock { now < 2 ^ 63 }
         requires armed { (timers_of wheel.old sid.0).armed < 2 ^ 63 }
         requires knows { KnowsArms half_id_eq self.old (timers_of wheel.old sid.0) }
@@ -122,7 +154,14 @@ impl Neighbours {
     }
 
     /// A neighbour's hardware address is set by hand. What waited for it is handed out.
-    pub(crate) fn set_static(&mut self, half: HalfId, ip: Ip4, mac: Mac, sid: Sid, wheel: &mut Wheel) -> Result<Packets, NoMemory>
+    pub(crate) fn set_static(
+        &mut self,
+        half: HalfId,
+        ip: Ip4,
+        mac: Mac,
+        sid: Sid,
+        wheel: &mut Wheel,
+    ) -> Result<Packets, NoMemory>
         requires { KnowsArms half_id_eq self.old (timers_of wheel.old sid.0) }
         ensures released { IfOk result (λ r. r ≡ held_for half_id_eq half ip (entries_of self.old)) }
         ensures here { OnOk result (Follows (after_static half_id_eq half ip mac)

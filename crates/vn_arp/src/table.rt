@@ -73,7 +73,15 @@ impl ArpTable {
 
     /// What becomes of a datagram that a stack sends to a neighbour on a half: it is handed back with the
     /// hardware address, or because the neighbour is down, or it waits for the neighbour's reply.
-    pub fn resolve(&mut self, sid: Sid, half: HalfId, ip: Ip4, packet: Bytes, now: u64, wheel: &mut Wheel) -> Result<Resolved, NoMemory>
+    pub fn resolve(
+        &mut self,
+        sid: Sid,
+        half: HalfId,
+        ip: Ip4,
+        packet: Bytes,
+        now: u64,
+        wheel: &mut Wheel,
+    ) -> Result<Resolved, NoMemory>
         requires clock { now < 2 ^ 63 }
         requires armed { (timers_of wheel.old sid.0).armed < 2 ^ 63 }
         requires knows { KnowsArms half_id_eq (of self.old sid.0) (timers_of wheel.old sid.0) }
@@ -93,7 +101,15 @@ impl ArpTable {
 
     /// A stack receives an ARP packet by a half, and learns from it where it has an entry for the sender, or
     /// where the target address is on the half (RFC 826, "Packet Reception").
-    pub fn input(&mut self, sid: Sid, half: HalfId, packet: &ArpPacket, target_is_mine: bool, now: u64, wheel: &mut Wheel) -> Result<Learned, NoMemory>
+    pub fn input(
+        &mut self,
+        sid: Sid,
+        half: HalfId,
+        packet: &ArpPacket,
+        target_is_mine: bool,
+        now: u64,
+        wheel: &mut Wheel,
+    ) -> Result<Learned, NoMemory>
         requires clock { now < 2 ^ 63 }
         requires armed { (timers_of wheel.old sid.0).armed < 2 ^ 63 }
         requires knows { KnowsArms half_id_eq (of self.old sid.0) (timers_of wheel.old sid.0) }
@@ -123,7 +139,14 @@ impl ArpTable {
     }
 
     /// The timer of a stack's entry was taken out, since it was due.
-    pub fn turn(&mut self, sid: Sid, half: HalfId, ip: Ip4, now: u64, wheel: &mut Wheel) -> Result<Turn, NoMemory>
+    pub fn turn(
+        &mut self,
+        sid: Sid,
+        half: HalfId,
+        ip: Ip4,
+        now: u64,
+        wheel: &mut Wheel,
+    ) -> Result<Turn, NoMemory>
         requires clock { now < 2 ^ 63 }
         requires armed { (timers_of wheel.old sid.0).armed < 2 ^ 63 }
         requires knows { KnowsArms half_id_eq (of self.old sid.0) (timers_of wheel.old sid.0) }
@@ -138,14 +161,19 @@ impl ArpTable {
         ensures others { ChangesOnly sid.0 (of self.old) (of self.new) }
         ensures other_timers { ChangesOnly sid.0 (timers_of wheel.old) (timers_of wheel.new) }
     {
-        self.stacks
-            .at_or_new(sid)?
-            .turn(half, ip, now, sid, wheel)
+        self.stacks.at_or_new(sid)?.turn(half, ip, now, sid, wheel)
     }
 
     /// The hardware address of a stack's neighbour on a half is set by hand (arp(8), `-s`). What waited for it
     /// is handed out.
-    pub fn set_static(&mut self, sid: Sid, half: HalfId, ip: Ip4, mac: Mac, wheel: &mut Wheel) -> Result<Packets, NoMemory>
+    pub fn set_static(
+        &mut self,
+        sid: Sid,
+        half: HalfId,
+        ip: Ip4,
+        mac: Mac,
+        wheel: &mut Wheel,
+    ) -> Result<Packets, NoMemory>
         requires { KnowsArms half_id_eq (of self.old sid.0) (timers_of wheel.old sid.0) }
         ensures release { IfOk result
             (λ r. r ≡ held_for half_id_eq half ip (entries_of (of self.old sid.0))) }
@@ -193,7 +221,13 @@ impl ArpTable {
     }
 
     /// The entries of a stack on a half are removed that no interface route of the half covers any more.
-    pub fn purge_uncovered<R: Covering>(&mut self, sid: Sid, half: HalfId, routes: &R, wheel: &mut Wheel)
+    pub fn purge_uncovered<R: Covering>(
+        &mut self,
+        sid: Sid,
+        half: HalfId,
+        routes: &R,
+        wheel: &mut Wheel,
+    )
         requires { KnowsArms half_id_eq (of self.old sid.0) (timers_of wheel.old sid.0) }
         ensures purged { Follows
             (without_entries (λ own ip. half_id_eq own half && not (R.covers routes.now sid (Half own) ip)))

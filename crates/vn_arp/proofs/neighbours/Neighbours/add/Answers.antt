@@ -1,12 +1,11 @@
-use Rattle.std.proofs.Common.{◌≡◌, ◌++◌, ◌∷◌, [], None, sym, ap, subst, ◌∙◌}
-use Rattle.vn_types.specs.declared.interface.HalfId.{HalfId}
+use Rattle.std.proofs.Common.{◌≡◌, ◌++◌, ◌∷◌, [], sym, ap, subst, ◌∙◌}
 use Rattle.vn_types.specs.Interfaces.{half_id_eq}
 use Rattle.vn_rules.specs.Arp.{entry_of}
 use Rattle.vn_rules.specs.Soundness.{has_distinct_entries}
 use Rattle.vn_rules.specs.declared.timer.TimerOf.TheVariants.{Arp}
 use Rattle.vn_rules.specs.Timers.{after_arm}
 use Rattle.vn_callout.specs.Stacks.{of as timers_of}
-use Rattle.vn_arp.specs.Kept.{KeptOf, entries_of, KnowsArms}
+use Rattle.vn_arp.specs.Kept.{entries_of, KnowsArms}
 use Rattle.vn_arp.proofs.Edits.{Kept, added_distinct, added_knows}
 use Rattle.vn_arp.proofs.neighbours.Neighbours.add.Goals as goal
 

@@ -1,16 +1,13 @@
-use Rattle.std.proofs.Common.{◌≡◌, ◌+◌, ◌<◌, IfSome, Some, None, OnOk, OnErr, IfOk, refl, sym, ap, subst, ◌∙◌}
+use Rattle.std.proofs.Common.{◌+◌, ◌<◌, IfSome, refl, ap, subst, ◌∙◌}
 use Rattle.std.specs.Prelude.{slice_set}
-use Rattle.std.specs.Option.{option_map_or}
 use Rattle.vn_types.specs.declared.interface.HalfId.{HalfId}
 use Rattle.vn_types.specs.Interfaces.{half_id_eq}
 use Rattle.vn_rules.specs.declared.arp.ArpEntryOf.{ArpEntryOf}
 use Rattle.vn_rules.specs.declared.arp.TheConstants.{REQUESTS_MAX}
-use Rattle.vn_rules.specs.declared.arp.ArpState.TheVariants.{Learnt, Static}
-use Rattle.vn_rules.specs.Arp.{resolved, holding, holds_all}
-use Rattle.vn_rules.specs.Resolution.{asked, given_up, request_time, down_time, learnt_time}
+use Rattle.vn_rules.specs.Resolution.{asked, request_time}
 use Rattle.vn_callout.specs.Stacks.{of as timers_of}
 use Rattle.vn_arp.specs.Kept.{KeptOf, entries_of, KnowsArms}
-use Rattle.vn_arp.proofs.Edits.{Edited, edited, Timing, after_stop, after_start, after_restart, after_nothing, not_nowhere, put_same, for_ok, for_err, for_both, both_ok, both_err}
+use Rattle.vn_arp.proofs.Edits.{Edited, edited, Timing, after_start, after_nothing, not_nowhere, put_same, for_ok, for_err, for_both, both_ok, both_err}
 use Rattle.vn_arp.proofs.neighbours.Neighbours.ask.Goals as goal
 
 pub unreachable-requires : goal.unreachable-requires

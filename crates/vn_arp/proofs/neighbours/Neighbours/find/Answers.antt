@@ -1,11 +1,10 @@
-use Rattle.std.proofs.Common.{rules, tests, ◌≡◌, Option, Some, None, MatchOption, sym, ap, ◌∙◌}
+use Rattle.std.proofs.Common.{rules, tests, ap, ◌∙◌}
 use Rattle.std.specs.List.{find}
-use Rattle.std.specs.Option.{option_map}
 use Rattle.std.proofs.lemmas.Iterator.{YieldsList-from_slice}
 use Rattle.std.proofs.lemmas.Iterator.Search.{find_from_yields_List}
 use Rattle.vn_types.specs.Interfaces.{half_id_eq}
-use Rattle.vn_arp.specs.Kept.{entries_of, is_kept_at}
-use Rattle.vn_arp.proofs.Edits.{Kept, found_entry}
+use Rattle.vn_arp.specs.Kept.{is_kept_at}
+use Rattle.vn_arp.proofs.Edits.{found_entry}
 use Rattle.vn_arp.proofs.neighbours.Neighbours.find.Goals as goal
 
 pub returns : goal.returns

@@ -1,16 +1,12 @@
-use Rattle.std.proofs.Common.{◌≡◌, ◌++◌, ◌∷◌, [], ◌+◌, ◌||◌, Some, None, true, false, not, refl, sym, ap, ap₂, subst, ◌∙◌}
-use Rattle.std.specs.Prelude.{is_some}
-use Rattle.vn_types.specs.declared.interface.HalfId.{HalfId}
-use Rattle.vn_types.specs.Interfaces.{half_id_eq}
-use Rattle.vn_rules.specs.declared.arp.ArpEntryOf.{ArpEntryOf}
-use Rattle.vn_rules.specs.declared.arp.ArpState.TheVariants.{Learnt, Static}
+use Rattle.std.proofs.Common.{◌≡◌, ◌++◌, ◌∷◌, [], ◌+◌, refl, sym, ap, ◌∙◌}
+use Rattle.vn_rules.specs.declared.arp.ArpState.TheVariants.{Learnt}
 use Rattle.vn_rules.specs.declared.timer.TimerOf.TheVariants.{Arp}
-use Rattle.vn_rules.specs.Arp.{entry_of, holding, new_entry, resolved}
-use Rattle.vn_rules.specs.Resolution.{learnt_time, request_time}
+use Rattle.vn_rules.specs.Arp.{new_entry, resolved}
+use Rattle.vn_rules.specs.Resolution.{learnt_time}
 use Rattle.vn_rules.specs.Timers.{after_arm}
 use Rattle.vn_callout.specs.Stacks.{of as timers_of}
-use Rattle.vn_arp.specs.Kept.{KeptOf, entries_of, KnowsArms}
-use Rattle.vn_arp.proofs.Edits.{Kept, for_ok, for_both, both_ok, knows_kept}
+use Rattle.vn_arp.specs.Kept.{entries_of}
+use Rattle.vn_arp.proofs.Edits.{Kept, for_ok, both_ok}
 use Rattle.vn_arp.proofs.Followed.{learnt, learnt_first, not_learnt, adds_no_target, adds_no_more}
 use Rattle.vn_arp.proofs.neighbours.Neighbours.input.Goals as goal
 use Rattle.vn_arp.proofs.neighbours.Neighbours.input.Goals.{then-not-is_target-via-then-not-is_target, then-not-is_target-via-else-not-is_target+then-has}
@@ -24,7 +20,7 @@ pub returns-then-not-is_target-clause-here : goal.returns-then-not-is_target-cla
 returns-then-not-is_target-clause-here c =
     not_learnt c.args.self.now c.args.self.now (timers_of c.args.wheel.now c.args.sid.0) (timers_of c.args.wheel.now c.args.sid.0) c.args.half c.args.ip c.args.now c.args.mac c.args.is_target (sym c.if-merges.ensures)
     (elim c.then-not-is_target.branch [
-      then-not-is_target-via-then-not-is_target w ↦ adds_no_target c.args.self.now c.args.self.now (timers_of c.args.wheel.now c.args.sid.0) (timers_of c.args.wheel.now c.args.sid.0) c.args.half c.args.ip c.args.is_target w.if-not-is_target.true
+      | then-not-is_target-via-then-not-is_target w ↦ adds_no_target c.args.self.now c.args.self.now (timers_of c.args.wheel.now c.args.sid.0) (timers_of c.args.wheel.now c.args.sid.0) c.args.half c.args.ip c.args.is_target w.if-not-is_target.true
       | then-not-is_target-via-else-not-is_target+then-has w ↦ adds_no_more c.args.self.now c.args.self.now (timers_of c.args.wheel.now c.args.sid.0) (timers_of c.args.wheel.now c.args.sid.0) c.args.half c.args.ip c.args.is_target (sym w.if-has.ensures)
     ]) refl refl
 

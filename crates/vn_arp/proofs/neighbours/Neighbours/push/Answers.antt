@@ -1,6 +1,4 @@
-use Rattle.std.proofs.Common.{◌≡◌, ◌++◌, ◌∷◌, [], sym, ap, ◌∙◌}
-use Rattle.vn_types.specs.declared.address.Ip4.{Ip4}
-use Rattle.vn_types.specs.declared.interface.HalfId.{HalfId}
+use Rattle.std.proofs.Common.{◌++◌, ◌∷◌, [], ap, ◌∙◌}
 use Rattle.vn_types.specs.Interfaces.{half_id_eq}
 use Rattle.vn_rules.specs.Arp.{entry_of}
 use Rattle.vn_rules.specs.Soundness.{has_distinct_entries}

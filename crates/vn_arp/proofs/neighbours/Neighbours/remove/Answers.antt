@@ -5,7 +5,6 @@ use Rattle.vn_types.specs.declared.interface.HalfId.{HalfId}
 use Rattle.vn_types.specs.Interfaces.{half_id_eq}
 use Rattle.vn_types.proofs.InterfaceNames.{half_id_eq-Decides}
 use Rattle.vn_rules.specs.declared.arp.ArpEntryOf.{ArpEntryOf}
-use Rattle.vn_rules.specs.Arp.{without_timers_where}
 use Rattle.vn_rules.specs.Soundness.{has_distinct_entries}
 use Rattle.vn_callout.specs.Stacks.{of as timers_of}
 use Rattle.vn_arp.specs.Kept.{entries_of, without_gone, KnowsArms}

@@ -1,16 +1,12 @@
-use Rattle.std.proofs.Common.{◌≡◌, ◌++◌, ◌∷◌, [], ◌+◌, ◌||◌, Some, None, true, false, not, refl, sym, ap, ap₂, subst, ◌∙◌}
-use Rattle.std.specs.Prelude.{is_some}
-use Rattle.vn_types.specs.declared.interface.HalfId.{HalfId}
+use Rattle.std.proofs.Common.{◌≡◌, ◌++◌, ◌∷◌, [], ◌+◌, refl, sym, ap, subst, ◌∙◌}
 use Rattle.vn_types.specs.Interfaces.{half_id_eq}
-use Rattle.vn_rules.specs.declared.arp.ArpEntryOf.{ArpEntryOf}
-use Rattle.vn_rules.specs.declared.arp.ArpState.TheVariants.{Learnt, Static}
 use Rattle.vn_rules.specs.declared.timer.TimerOf.TheVariants.{Arp}
-use Rattle.vn_rules.specs.Arp.{entry_of, holding, new_entry, resolved}
-use Rattle.vn_rules.specs.Resolution.{learnt_time, request_time}
+use Rattle.vn_rules.specs.Arp.{holding, new_entry}
+use Rattle.vn_rules.specs.Resolution.{request_time}
 use Rattle.vn_rules.specs.Timers.{after_arm}
 use Rattle.vn_callout.specs.Stacks.{of as timers_of}
-use Rattle.vn_arp.specs.Kept.{KeptOf, entries_of, KnowsArms, IsPut}
-use Rattle.vn_arp.proofs.Edits.{Kept, for_ok, for_both, both_ok, knows_kept}
+use Rattle.vn_arp.specs.Kept.{entries_of, KnowsArms, IsPut}
+use Rattle.vn_arp.proofs.Edits.{Kept, for_ok, for_both, knows_kept}
 use Rattle.vn_arp.proofs.Followed.{held, held_first}
 use Rattle.vn_arp.proofs.neighbours.Neighbours.wait.Goals as goal
 
