@@ -1,11 +1,12 @@
 -- What is kept of pairs, after one of them changed.
-use Rattle.std.proofs.Common.{◌≡◌, ◌≢◌, ℕ, ◌+◌, ◌<◌, ◌≤◌, Bool, true, false, not, ◌==◌, ◌&&◌, ◌||◌, List, [], ◌∷◌, ◌++◌, length, get_or, Option, Some, None, unwrap_or, IfSome, IsSome, refl, sym, subst, ap, ap₂, ◌∙◌, arith, ⊎_elim}
+use Rattle.std.proofs.Common.{◌≡◌, ℕ, ◌+◌, ◌<◌, ◌≤◌, Bool, true, false, not, ◌==◌, ◌&&◌, ◌||◌, List, [], ◌∷◌, ◌++◌, length, get_or, Option, Some, None, unwrap_or, IfSome, IsSome, refl, sym, subst, ap, ◌∙◌, arith, ⊎_elim}
 use Rattle.std.specs.Prelude.{slice_set, if◌then◌else◌}
-use Rattle.std.specs.List.{list_any, sum_by}
-use Rattle.std.specs.BTreeMap.{BTreeMap, get}
+use Rattle.std.specs.List.{list_any}
+use Rattle.std.specs.BTreeMap.{get}
+use Rattle.std.specs.Cmp.{both_ways}
 use Rattle.std.proofs.lemmas.Bool.{eqb-true, eq-eqb, and_parts, and_from, not-false, cases_eq, cases_lt, false≢true, or_from}
-use Rattle.std.proofs.lemmas.List.{get_or-set_same, get_or-set_other, get_or_past, get_or_default}
-use Rattle.std.proofs.lemmas.List.Sums.{sum_by-set, get_or-le-sum_by}
+use Rattle.std.proofs.lemmas.List.{get_or_past, get_or_default}
+use Rattle.std.proofs.lemmas.List.Sums.{get_or-le-sum_by}
 use Rattle.vn_types.specs.declared.interface.HalfId.{HalfId}
 use Rattle.vn_types.specs.declared.interface.Side.{Side}
 use Rattle.vn_types.specs.declared.interface.Side.TheVariants.{A, B}
@@ -13,101 +14,14 @@ use Rattle.vn_types.specs.Interfaces.{half_id_eq, side_eq, other_side}
 use Rattle.vn_epair.specs.declared.line.Awaited.{Awaited}
 use Rattle.vn_epair.specs.declared.pair_row.TheConstants.{UNIT_MAX}
 use Rattle.vn_epair.specs.Halves.{End, Pair}
-use Rattle.vn_epair.specs.Pairs.{coming, with_coming, end_of, with_end, new_pair, is_awaiting, is_empty, is_named, of, side_number}
+use Rattle.vn_rules.specs.Scenes.{is_empty}
+use Rattle.vn_epair.specs.Pairs.{coming, with_coming, end_of, with_end, new_pair, is_awaiting, is_named, of, side_number}
 use Rattle.vn_epair.specs.Line.{Halves, rank, is_half, is_ranked, IsSettled}
-use Rattle.vn_epair.specs.Kept.{Name, name_cmp, quiet_halves, is_right, IsKept}
+use Rattle.vn_epair.specs.Kept.{name_cmp, quiet_halves, is_right, IsKept}
 use Rattle.vn_types.proofs.InterfaceNames.{half_id_eq-Decides}
-use Rattle.vn_epair.proofs.Lists.{any-agree, any-both, any-never, same_true}
-
-abbrev Map : Type 0
-Map = BTreeMap Name ℕ
-
--- the half of a pair, with its home and unit
-abbrev pub awaited_of : Pair → HalfId → Awaited
-awaited_of pair half = record { home = record { 0 = pair.home }; unit = pair.unit; half = half }
-
--- ---- one place of the list
-
--- a number that has a pair is within the list
-pub inside : (pairs : List (Option Pair)) (n : ℕ) (p : Pair) → of pairs n ≡ Some p → n < length pairs
-inside pairs n p is = ⊎_elim (λ (lt : n < length pairs). lt) (λ (le : length pairs ≤ n). let none = get_or_past pairs n None le in absurd (by (sym none ∙ is))) (cases_lt n (length pairs))
-  where
-    by : None ≡ Some p → ⊥
-    by e = cc
-
--- one pair becomes another of the same name
-pub record IsChanged (pairs pairs' : List (Option Pair)) (n : ℕ) (p p' : Pair) : Type 0 where
-  pub was : of pairs n ≡ Some p
-  pub is : pairs' ≡ slice_set pairs n (Some p')
-  pub home : p'.home ≡ p.home
-  pub unit : p'.unit ≡ p.unit
-
-module _ (pairs pairs' : List (Option Pair)) (n : ℕ) (p p' : Pair) (c : IsChanged pairs pairs' n p p') where
-  here : of pairs' n ≡ Some p'
-  here = ap (λ ps. of ps n) c.is ∙ get_or-set_same pairs n (Some p') None (inside pairs n p c.was)
-
-  elsewhere : (q : ℕ) → q ≢ n → of pairs' q ≡ of pairs q
-  elsewhere q ne = ap (λ ps. of ps q) c.is ∙ get_or-set_other pairs n q (Some p') None ne
-
-  pub same-names : (home unit q : ℕ) → is_named home unit (of pairs' q) ≡ is_named home unit (of pairs q)
-  same-names home unit q = ⊎_elim at (λ ne. ap (is_named home unit) (elsewhere q ne)) (cases_eq q n)
-    where
-      at : q ≡ n → is_named home unit (of pairs' q) ≡ is_named home unit (of pairs q)
-      at e =
-          ap (λ k. is_named home unit (of pairs' k)) e ∙ ap (is_named home unit) here
-          ∙ ap₂ (λ h u. (h == home) && (u == unit)) c.home c.unit
-          ∙ sym (ap (λ k. is_named home unit (of pairs k)) e ∙ ap (is_named home unit) c.was)
-
-  carried : (P : Pair → ℕ → Type 0) → P p' n → ((q : ℕ) → IfSome (of pairs q) (λ pair. P pair q)) → (q : ℕ) → IfSome (of pairs' q) (λ pair. P pair q)
-  carried P at all q = ⊎_elim same apart (cases_eq q n)
-    where
-      same : q ≡ n → IfSome (of pairs' q) (λ pair. P pair q)
-      same e = subst (λ k. IfSome (of pairs' k) (λ pair. P pair k)) (sym e) (subst (λ o. IfSome o (λ pair. P pair n)) (sym here) at)
-
-      apart : q ≢ n → IfSome (of pairs' q) (λ pair. P pair q)
-      apart ne = subst (λ o. IfSome o (λ pair. P pair q)) (sym (elsewhere q ne)) (all q)
-
-  before : (P : Pair → ℕ → Type 0) → ((q : ℕ) → IfSome (of pairs q) (λ pair. P pair q)) → P p n
-  before P all = subst (λ o. IfSome o (λ pair. P pair n)) c.was (all n)
-
-  -- the names and the numbers stay, so what is left is of the frames
-  pub kept-changed : (names : Map) (line line' : Halves) → IsKept pairs names line → ((h : HalfId) → list_any (is_half h) line'.listed ≡ is_awaiting pairs' h)
-      → list_any (λ e. not (is_right pairs e)) line'.listed ≡ false → line'.room + quiet_halves (Some p) ≡ line.room + quiet_halves (Some p') → IsKept pairs' names line'
-  kept-changed names line line' kept listed right room = record {
-    named = named;
-    standing = standing;
-    units = units;
-    listed = listed;
-    right = ap (λ f. list_any f line'.listed) (λ i e. not (same-names e.home.0 e.unit e.half.pair i)) ∙ right;
-    room = counted;
-  }
-    where
-      named : (q : ℕ) → IfSome (of pairs' q) (λ pair. get name_cmp names (pair.home, pair.unit) ≡ Some q)
-      named = carried (λ pair q. get name_cmp names (pair.home, pair.unit) ≡ Some q) (ap (get name_cmp names) (λ i. (c.home i, c.unit i)) ∙ before (λ pair q. get name_cmp names (pair.home, pair.unit) ≡ Some q) kept.named) kept.named
-
-      standing : (k : Name) → IfSome (get name_cmp names k) (λ q. is_named k.0 k.1 (of pairs' q) ≡ true)
-      standing k = by (get name_cmp names k) (kept.standing k)
-        where
-          by : (o : Option ℕ) → IfSome o (λ q. is_named k.0 k.1 (of pairs q) ≡ true) → IfSome o (λ q. is_named k.0 k.1 (of pairs' q) ≡ true)
-          by None is = is
-          by (Some q) is = same-names k.0 k.1 q ∙ is
-
-      units : (q : ℕ) → IfSome (of pairs' q) (λ pair. pair.unit ≤ UNIT_MAX)
-      units = carried (λ pair q. pair.unit ≤ UNIT_MAX) (subst (λ u. u ≤ UNIT_MAX) (sym c.unit) (before (λ pair q. pair.unit ≤ UNIT_MAX) kept.units)) kept.units
-
-      counted : line'.room ≡ sum_by quiet_halves pairs'
-      counted =
-          let sums = sum_by-set quiet_halves pairs n (Some p') None (inside pairs n p c.was) in
-          let was = ap quiet_halves c.was in
-          let now = ap (sum_by quiet_halves) c.is in
-          let before = kept.room in
-          omega arith
-
--- ---- halves by their places in the order
-
-side-small : (s : Side) → side_number s ≤ 1
-side-small A = omega arith
-side-small B = omega arith
+use Rattle.vn_epair.proofs.Lists.{any-agree, any-both, any-never}
+use Rattle.vn_epair.proofs.Order.{side-small}
+use Rattle.vn_epair.proofs.Changes.{Map, awaited_of, inside, IsChanged, here, elsewhere, kept-changed}
 
 side-same : (s t : Side) → side_number s ≡ side_number t → side_eq s t ≡ true
 side-same A A e = refl
@@ -138,7 +52,7 @@ module _ (pairs : List (Option Pair)) (names : Map) (line : Halves) (kept : IsKe
       by : (o : Option Pair) → of pairs e.half.pair ≡ o → not (is_named e.home.0 e.unit o) ≡ false → IfSome o (λ pair. get name_cmp names (pair.home, pair.unit) ≡ Some e.half.pair) → IfSome o (λ pair. pair.unit ≤ UNIT_MAX)
           → is_ranked (rank (awaited_of p at)) e ≡ is_half at e
       by None is h name unit = absurd (false≢true (sym h))
-      by (Some q) is h' name unit = same_true (is_ranked (rank (awaited_of p at)) e) (is_half at e) to from
+      by (Some q) is h' name unit = both_ways (is_ranked (rank (awaited_of p at)) e) (is_half at e) to from
         where
           named : ((q.home == e.home.0) && (q.unit == e.unit)) ≡ true
           named = not-false ((q.home == e.home.0) && (q.unit == e.unit)) h'

@@ -1,5 +1,6 @@
 pub mod Lists
 pub mod Order
+pub mod Changes
 pub mod Keeps
 pub mod Names
 pub mod Next

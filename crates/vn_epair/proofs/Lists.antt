@@ -37,9 +37,3 @@ module _ {X : Type 0} where
       let a = or_parts (p x) (list_any p xs) no-p in
       let b = or_parts (q x) (list_any q xs) no-q in
       or_from (p x || q x) (list_any (λ x. p x || q x) xs) (or_from (p x) (q x) a.0 b.0) (any-or p q xs a.1 b.1)
-
--- two tests are one that hold of the same
-pub same_true : (a b : Bool) → (a ≡ true → b ≡ true) → (b ≡ true → a ≡ true) → a ≡ b
-same_true true b to from = sym (to refl)
-same_true false true to from = from refl
-same_true false false to from = refl

@@ -3,10 +3,8 @@ use Rattle.std.proofs.Common.{◌≡◌, ◌≢◌, ℕ, suc, ◌+◌, ◌<◌, 
 use Rattle.std.specs.Prelude.{slice_set}
 use Rattle.std.specs.List.{list_any}
 use Rattle.std.specs.Option.{is_some}
-use Rattle.std.specs.Ordering.{is_eq, nat_cmp, ordering_then}
-use Rattle.std.specs.declared.cmp.Ordering.{Ordering}
-use Rattle.std.specs.declared.cmp.Ordering.TheVariants.{Less, Equal, Greater}
-use Rattle.std.specs.Cmp.{unsigned_ties}
+use Rattle.std.specs.Ordering.{nat_cmp}
+use Rattle.std.specs.Cmp.{tied_then, unsigned_ties}
 use Rattle.std.specs.BTreeMap.{BTreeMap, get, is_at}
 use Rattle.std.proofs.lemmas.Bool.{eqb-true, eq-eqb, and_parts, and_from, not-false, cases_eq, cases_order, false_from_ne_true, cond-true, cond-false, false≢true, or_from, or_parts}
 use Rattle.std.proofs.lemmas.List.{get_or-set_same, get_or-set_other, get_or_past, get_or_append_left, get_or_push}
@@ -19,23 +17,19 @@ use Rattle.vn_types.specs.Interfaces.{side_eq}
 use Rattle.vn_epair.specs.declared.line.Awaited.{Awaited}
 use Rattle.vn_epair.specs.declared.pair_row.TheConstants.{UNIT_MAX}
 use Rattle.vn_epair.specs.Halves.{Pair}
-use Rattle.vn_epair.specs.Pairs.{coming, new_pair, is_awaiting, is_empty, is_named, of}
+use Rattle.vn_rules.specs.Scenes.{is_empty}
+use Rattle.vn_epair.specs.Pairs.{coming, new_pair, is_awaiting, is_named, of}
 use Rattle.vn_epair.specs.Line.{Halves, is_half}
 use Rattle.vn_epair.specs.Kept.{Name, name_cmp, quiet_halves, is_right, IsKept}
 use Rattle.vn_epair.proofs.Lists.{any-agree, any-never, any-or}
-use Rattle.vn_epair.proofs.Keeps.{inside}
+use Rattle.vn_epair.proofs.Changes.{inside}
 
 abbrev Map : Type 0
 Map = BTreeMap Name ℕ
 
-eq_then : (a b : Ordering) → is_eq (ordering_then a b) ≡ (is_eq a && is_eq b)
-eq_then Less b = refl
-eq_then Equal b = refl
-eq_then Greater b = refl
-
 -- names that compare as equal are one
 pub name-ties : (k q : Name) → is_at (name_cmp k) q ≡ ((k.0 == q.0) && (k.1 == q.1))
-name-ties k q = eq_then (nat_cmp k.0 q.0) (nat_cmp k.1 q.1) ∙ sym (ap₂ (λ a b. a && b) (unsigned_ties k.0 q.0) (unsigned_ties k.1 q.1))
+name-ties k q = sym (tied_then (nat_cmp k.0 q.0) (nat_cmp k.1 q.1)) ∙ sym (ap₂ (λ a b. a && b) (unsigned_ties k.0 q.0) (unsigned_ties k.1 q.1))
 
 -- a pair has a name exactly where the name is the one that is looked for
 named-is : (home unit : ℕ) (pair : Pair) → is_named home unit (Some pair) ≡ true → (pair.home ≡ home) × (pair.unit ≡ unit)

@@ -3,8 +3,8 @@ use Rattle.std.proofs.Common.{◌≡◌, ◌≢◌, ℕ, ◌+◌, ◌-◌, ◌<�
 use Rattle.std.specs.Prelude.{nat_lt}
 use Rattle.std.specs.List.{list_any, insert, remove, Any}
 use Rattle.std.specs.List.Sorted.{IsPartitionedBy}
-use Rattle.std.proofs.lemmas.Bool.{eqb-true, eq-eqb, and_parts, and_right, lt-ltb, ltb-true, leb-true, le-leb, cases_order, cases_lt, cases_eq, false_from_ne_true, false≢true}
-use Rattle.std.proofs.lemmas.List.Edits.{length-insert, get_or-insert_below, get_or-insert_at, get_or-insert_above, length-remove, get_or-remove_below, get_or-remove_above}
+use Rattle.std.proofs.lemmas.Bool.{eqb-true, eq-eqb, and_parts, and_right, lt-ltb, ltb-true, leb-true, le-leb, cases_lt, cases_eq, false_from_ne_true, false≢true}
+use Rattle.std.proofs.lemmas.List.Edits.{length-remove, get_or-remove_below, get_or-remove_above}
 use Rattle.std.proofs.lemmas.List.Folds.{Any-from_list_any, list_any_at}
 use Rattle.std.proofs.lemmas.List.{get_or_default}
 use Rattle.vn_types.specs.declared.interface.Side.{Side}
@@ -13,69 +13,18 @@ use Rattle.vn_epair.specs.declared.line.Awaited.{Awaited}
 use Rattle.vn_epair.specs.declared.pair_row.TheConstants.{UNIT_MAX}
 use Rattle.vn_epair.specs.Pairs.{side_number}
 use Rattle.vn_epair.specs.Line.{rank, is_ranked, place_in_order, IsInOrder}
+use Rattle.vn_types.proofs.Chains.{IsChain, chain-insert}
 use Rattle.vn_epair.proofs.Lists.{any-remove, any-agree}
+
+pub side-small : (s : Side) → side_number s ≤ 1
+side-small A = omega arith
+side-small B = omega arith
 
 module _ {X : Type 0} (n : X → ℕ) where
   -- n of an element is above n of any later one
   abbrev pub IsFalling : List X → Type 0
-  IsFalling xs = (i j : ℕ) (d : X) → i < j → j < length xs → n (get_or xs j d) < n (get_or xs i d)
+  IsFalling xs = IsChain (λ x y. n y < n x) xs
 
-  pub falling-insert : (xs : List X) (i : ℕ) (y : X) → IsFalling xs → i ≤ length xs → ((k : ℕ) (d : X) → k < i → n y < n (get_or xs k d))
-      → ((k : ℕ) (d : X) → i ≤ k → k < length xs → n (get_or xs k d) < n y) → IsFalling (insert xs i y)
-  falling-insert xs i y falls in' above under a b d less within = ⊎_elim at (λ c. ⊎_elim below beyond c) (cases_order b i)
-    where
-      size : length (insert xs i y) ≡ length xs + 1
-      size = length-insert xs i y in'
-
-      low : (m : ℕ) → m < i → n (get_or (insert xs i y) m d) ≡ n (get_or xs m d)
-      low m lt = ap n (get_or-insert_below xs i y d m lt in')
-
-      here : (m : ℕ) → m ≡ i → n (get_or (insert xs i y) m d) ≡ n y
-      here m e = ap (λ k. n (get_or (insert xs i y) k d)) e ∙ ap n (get_or-insert_at xs i y d in')
-
-      high : (m : ℕ) → i < m → n (get_or (insert xs i y) m d) ≡ n (get_or xs (m - 1) d)
-      high m gt =
-          let e : m ≡ (m - 1) + 1 = omega arith in
-          ap (λ k. n (get_or (insert xs i y) k d)) e ∙ ap n (get_or-insert_above xs i y d (m - 1) (omega arith) in')
-
-      at : b ≡ i → n (get_or (insert xs i y) b d) < n (get_or (insert xs i y) a d)
-      at e = let hb = here b e in let ha = low a (omega arith) in let f = above a d (omega arith) in omega arith
-
-      below : b < i → n (get_or (insert xs i y) b d) < n (get_or (insert xs i y) a d)
-      below lt = let hb = low b lt in let ha = low a (omega arith) in let f = falls a b d less (omega arith) in omega arith
-
-      beyond : i < b → n (get_or (insert xs i y) b d) < n (get_or (insert xs i y) a d)
-      beyond gt =
-          let hb = high b gt in
-          let small : b - 1 < length xs = omega (arith, size) in
-          ⊎_elim (λ (e : a ≡ i). let ha = here a e in let f = under (b - 1) d (omega arith) small in omega arith)
-          (λ c. ⊎_elim (λ (lt : a < i). let ha = low a lt in let f = falls a (b - 1) d (omega arith) small in omega arith)
-          (λ (more : i < a). let ha = high a more in let f = falls (a - 1) (b - 1) d (omega arith) small in omega arith) c)
-          (cases_order a i)
-
-  pub falling-remove : (xs : List X) (i : ℕ) → IsFalling xs → i < length xs → IsFalling (remove xs i)
-  falling-remove xs i falls in' a b d less within = ⊎_elim below beyond (cases_lt b i)
-    where
-      size : length (remove xs i) + 1 ≡ length xs
-      size = length-remove xs i in'
-
-      low : (m : ℕ) → m < i → n (get_or (remove xs i) m d) ≡ n (get_or xs m d)
-      low m lt = ap n (get_or-remove_below xs i d m lt in')
-
-      high : (m : ℕ) → i ≤ m → n (get_or (remove xs i) m d) ≡ n (get_or xs (m + 1) d)
-      high m le = ap n (get_or-remove_above xs i d m le in')
-
-      below : b < i → n (get_or (remove xs i) b d) < n (get_or (remove xs i) a d)
-      below lt = let hb = low b lt in let ha = low a (omega arith) in let f = falls a b d less (omega arith) in omega arith
-
-      beyond : i ≤ b → n (get_or (remove xs i) b d) < n (get_or (remove xs i) a d)
-      beyond le =
-          let hb = high b le in
-          ⊎_elim (λ (lt : a < i). let ha = low a lt in let f = falls a (b + 1) d (omega arith) (omega (arith, size)) in omega arith)
-          (λ (more : i ≤ a). let ha = high a more in let f = falls (a + 1) (b + 1) d (omega arith) (omega (arith, size)) in omega arith)
-          (cases_lt a i)
-
-  -- what `partition_point` asks
   pub partitioned : (xs : List X) (t : ℕ) → IsFalling xs → IsPartitionedBy (λ y. leb t (n y)) xs
   partitioned xs t falls i j d le within passes = ⊎_elim same apart (cases_eq i j)
     where
@@ -175,10 +124,6 @@ home-other es home count falls in' behind before units r some is other = false_f
     small : (k : ℕ) (e : Awaited) → k < length es → ((d : Awaited) → get_or es k d ≡ e) → e.unit ≤ UNIT_MAX
     small k e within is = ⊎_elim (λ (gt : UNIT_MAX < e.unit). absurd (false≢true (sym units ∙ list_any_at (λ (e : Awaited). nat_lt UNIT_MAX e.unit) es k e within (ap (λ (x : Awaited). nat_lt UNIT_MAX x.unit) (is e) ∙ lt-ltb UNIT_MAX e.unit gt)))) (λ (le : e.unit ≤ UNIT_MAX). le) (cases_lt UNIT_MAX e.unit)
 
-    side : (s : Side) → side_number s ≤ 1
-    side A = omega arith
-    side B = omega arith
-
     by : Found (λ (e : Awaited). e.home.0 == home) es → ⊥
     by f =
         let same = eqb-true f.element.home.0 home f.passes in
@@ -188,8 +133,8 @@ home-other es home count falls in' behind before units r some is other = false_f
         let up = behind (count - 1) r (omega arith) in
         let su = small f.at f.element f.within f.is in
         let ru = small (count - 1) r (omega arith) is in
-        let fs = side f.element.half.side in
-        let rs = side r.half.side in
+        let fs = side-small f.element.half.side in
+        let rs = side-small r.half.side in
         other (omega arith)
 
 -- ---- one half less
@@ -241,7 +186,7 @@ others-remove es i place falls in' at test = sym (whole ∙ first ∙ rest)
 
 pub order-put : (es : List Awaited) (count : ℕ) (y : Awaited) → IsInOrder es → count ≤ length es → ((k : ℕ) (d : Awaited) → k < count → rank y ≤ rank (get_or es k d))
     → ((k : ℕ) (d : Awaited) → count ≤ k → k < length es → rank (get_or es k d) < rank y) → list_any (is_ranked (rank y)) es ≡ false → IsInOrder (insert es count y)
-order-put es count y falls in' behind before other = falling-insert rank es count y falls in' above before
+order-put es count y falls in' behind before other = chain-insert (λ x z. rank z < rank x) es count y falls in' above before
   where
     above : (k : ℕ) (d : Awaited) → k < count → rank y < rank (get_or es k d)
     above k d lt =

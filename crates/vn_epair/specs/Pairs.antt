@@ -1,7 +1,6 @@
 -- Pairs by their numbers.
-use Rattle.std.specs.Prelude.{◌≡◌, ◌≢◌, ℕ, ◌+◌, ◌*◌, ◌/◌, ◌%◌, ◌<◌, ◌≤◌, Bool, true, false, ◌==◌, ◌&&◌, not, nat_lt, nat_le, List, [], ◌∷◌, length, slice_index_or, Option, Some, None, unwrap_or}
+use Rattle.std.specs.Prelude.{◌≡◌, ◌≢◌, ℕ, ◌+◌, ◌*◌, ◌<◌, ◌≤◌, Bool, true, false, ◌==◌, ◌&&◌, not, nat_lt, nat_le, List, [], ◌∷◌, length, slice_index_or, Option, Some, None, unwrap_or}
 use Rattle.std.specs.List.{list_any, All}
-use Rattle.vn_types.specs.declared.address.Mac.{Mac}
 use Rattle.vn_types.specs.declared.errno.Errno.{Errno}
 use Rattle.vn_types.specs.declared.errno.Errno.TheVariants.{Inval, Exist, NetDown, NoBufs}
 use Rattle.vn_types.specs.declared.interface.HalfId.{HalfId}
@@ -14,6 +13,7 @@ use Rattle.vn_types.specs.Interfaces.{other_side}
 use Rattle.vn_types.specs.PerStack.{of as kept}
 use Rattle.vn_types.specs.Refusals.{first_refusal}
 use Rattle.vn_rules.specs.Macs.{first_mac}
+use Rattle.vn_rules.specs.Scenes.{is_empty}
 use Rattle.vn_epair.specs.declared.half_row.TheConstants.{FRAMES_MAX}
 use Rattle.vn_epair.specs.declared.pair_row.TheConstants.{UNIT_MAX}
 use Rattle.vn_epair.specs.Halves.{End, Pair}
@@ -30,11 +30,6 @@ send_refusal end =
     first_refusal ((not end.up, NetDown) ∷ (nat_le FRAMES_MAX (length end.sent), NoBufs) ∷ [])
 
 -- nothing waits that the half sent
-abbrev pub is_empty : List (List ℕ) → Bool
-is_empty [] = true
-is_empty (frame ∷ frames) = false
-
--- the same of a half
 abbrev pub is_quiet : End → Bool
 is_quiet end = is_empty end.sent
 

@@ -1,7 +1,8 @@
 ghost use Rattle.std.specs.Prelude.{◌≡◌, ◌++◌, ◌∷◌, ◌==◌, ◌&&◌, [], Some, OnOk, OnErr, IfOk, drop, slice_get};
 ghost use Rattle.vn_types.specs.Interfaces.{other_side};
 ghost use Rattle.vn_types.specs.Refusals.{IsRefusedBy};
-ghost use Rattle.vn_epair.specs.Pairs.{coming, end_of, new_pair, is_empty, send_refusal, with_coming, with_end};
+ghost use Rattle.vn_rules.specs.Scenes.{is_empty};
+ghost use Rattle.vn_epair.specs.Pairs.{coming, end_of, new_pair, send_refusal, with_coming, with_end};
 
 use crate::half_row::HalfRow;
 use bytes::Bytes;

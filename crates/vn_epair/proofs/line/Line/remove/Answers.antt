@@ -2,7 +2,8 @@ use Rattle.std.proofs.Common.{◌≡◌, ◌-◌, ◌<◌, ◌≤◌, true, leng
 use Rattle.std.specs.List.{remove, list_any}
 use Rattle.std.proofs.lemmas.List.Edits.{length-remove}
 use Rattle.vn_epair.specs.Line.{Halves, rank, is_ranked}
-use Rattle.vn_epair.proofs.Order.{found-last, falling-remove, others-remove}
+use Rattle.vn_types.proofs.Chains.{chain-remove}
+use Rattle.vn_epair.proofs.Order.{found-last, others-remove}
 use Rattle.vn_epair.proofs.line.Line.remove.Goals as goal
 
 pub overflow_sub-behind : goal.overflow_sub-behind
@@ -22,7 +23,7 @@ invariant_of-self c =
     let is : c.remove.new.self.items ≡ remove c.self.inside.listed.items (c.count_behind-behind.result - 1) = c.remove.ensures.items in
     let size = length-remove c.self.inside.listed.items (c.count_behind-behind.result - 1) within in
     let len = ap length is in
-    (rw is (falling-remove rank c.self.inside.listed.items (c.count_behind-behind.result - 1) c.self.invariant.0 within), omega (arith, c.self.invariant.1, c.remove.ensures.capacity))
+    (rw is (chain-remove (λ x y. rank y < rank x) c.self.inside.listed.items (c.count_behind-behind.result - 1) c.self.invariant.0 within), omega (arith, c.self.invariant.1, c.remove.ensures.capacity))
 
 pub returns-clause-others : goal.returns-clause-others
 returns-clause-others c = λ test.

@@ -2,10 +2,12 @@ use Rattle.std.proofs.Common.{◌≡◌, not, Some, IsSome, unwrap_or, refl, sub
 use Rattle.vn_epair.specs.declared.line.Awaited.{Awaited}
 use Rattle.vn_types.specs.Interfaces.{other_side}
 use Rattle.std.specs.List.{list_any}
-use Rattle.vn_epair.specs.Pairs.{coming, end_of, half_of, is_empty, new_pair, of, send_refusal}
+use Rattle.vn_rules.specs.Scenes.{is_empty}
+use Rattle.vn_epair.specs.Pairs.{coming, end_of, half_of, new_pair, of, send_refusal}
 use Rattle.vn_types.specs.Refusals.{IsRefusedBy}
 use Rattle.vn_epair.specs.Line.{is_ranked, rank}
-use Rattle.vn_epair.proofs.Keeps.{awaited_of, kept-frames, other-twice, read, settle-listed, settle-room, settled-as}
+use Rattle.vn_epair.proofs.Changes.{awaited_of}
+use Rattle.vn_epair.proofs.Keeps.{kept-frames, other-twice, read, settle-listed, settle-room, settled-as}
 use Rattle.vn_epair.proofs.pairs.Pairs.send.Goals as goal
 
 pub settle-requires-clause-listed : goal.settle-requires-clause-listed

@@ -2,9 +2,11 @@ use Rattle.std.proofs.Common.{◌≡◌, not, Some, IsSome, refl, subst, sym, ap
 use Rattle.vn_epair.specs.declared.line.Awaited.{Awaited}
 use Rattle.vn_types.specs.Interfaces.{other_side}
 use Rattle.std.specs.List.{list_any}
-use Rattle.vn_epair.specs.Pairs.{coming, is_empty, of}
+use Rattle.vn_rules.specs.Scenes.{is_empty}
+use Rattle.vn_epair.specs.Pairs.{coming, of}
 use Rattle.vn_epair.specs.Line.{is_ranked, rank}
-use Rattle.vn_epair.proofs.Keeps.{awaited_of, kept-frames, read, settle-listed, settle-room, settled-as}
+use Rattle.vn_epair.proofs.Changes.{awaited_of}
+use Rattle.vn_epair.proofs.Keeps.{kept-frames, read, settle-listed, settle-room, settled-as}
 use Rattle.vn_epair.proofs.pairs.Pairs.take.Goals as goal
 
 pub settle-requires-clause-listed : goal.settle-requires-clause-listed
