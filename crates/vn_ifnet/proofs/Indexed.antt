@@ -2,7 +2,7 @@
 use Rattle.std.proofs.Common.{◌≡◌, ◌≢◌, ℕ, Bool, true, false, not, cond, ◌==◌, eqb, List, [], ◌∷◌, ◌++◌, find, Option, Some, None, IfSome, refl, sym, subst, ap, ◌∙◌}
 use Rattle.std.specs.List.{AllByRecursion, IsDistinct, list_any}
 use Rattle.std.specs.BTreeMap.{is_at}
-use Rattle.std.specs.Cmp.{unsigned_ties}
+use Rattle.std.specs.Cmp.{both_ways, unsigned_ties}
 use Rattle.std.specs.Ordering.{nat_cmp}
 use Rattle.std.specs.Map.{keys_of, values_of, remove_entry}
 use Rattle.std.proofs.lemmas.Bool.{eqb-true, eq-eqb, ne_eqb, cond-true, cond-false, false≢true, false_from_ne_true}
@@ -58,18 +58,13 @@ module _ (es : Es) (ps : Ps) (what : IfOf HalfId) (kept : IsIndexed es ps) where
       where
         by : (o : Option Attached) → at k es ≡ o → IfSome o (λ a. told (if_number a.what) ps ≡ Some k) → IfSome o (λ a. if_same half_id_eq a.what what ≡ (n == k))
         by None f h = tt
-        by (Some a) f h = sym (same-if what a.what) ∙ alike (if_number what == if_number a.what) (n == k) to from
+        by (Some a) f h = sym (same-if what a.what) ∙ both_ways (if_number what == if_number a.what) (n == k) to from
           where
             to : (if_number what == if_number a.what) ≡ true → (n == k) ≡ true
             to e = let c : Some n ≡ Some k = sym is ∙ ap (λ w. told w ps) (eqb-true (if_number what) (if_number a.what) e) ∙ h in let s : n ≡ k = cc in eq-eqb n k s
 
             from : (n == k) ≡ true → (if_number what == if_number a.what) ≡ true
             from e = eq-eqb (if_number what) (if_number a.what) (sym (subst (λ o. HasNumber o (if_number what)) (ap (λ q. at q es) (eqb-true n k e) ∙ f) own))
-
-            alike : (a b : Bool) → (a ≡ true → b ≡ true) → (b ≡ true → a ≡ true) → a ≡ b
-            alike true b to from = sym (to refl)
-            alike false true to from = from refl
-            alike false false to from = refl
 
     pub without-one : values_of (remove_entry (λ q. n == q) es) ≡ without what (values_of es)
     without-one = removed (λ (a : Attached). if_same half_id_eq a.what what) n es kept.distinct (each-entry (λ k a. if_same half_id_eq a.what what ≡ (n == k)) es kept.distinct one)
