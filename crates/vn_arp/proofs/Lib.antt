@@ -3,3 +3,4 @@ pub mod Rows
 pub mod Removal
 pub mod Edits
 pub mod Followed
+pub mod Listed

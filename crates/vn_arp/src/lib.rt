@@ -4,6 +4,7 @@
 
 mod answers;
 mod gone;
+mod listing;
 mod lookups;
 mod neighbour;
 mod neighbours;

@@ -9,6 +9,7 @@ ghost use Rattle.vn_rules.specs.Timers.{after_arm, has_timer};
 ghost use Rattle.vn_callout.specs.Stacks.{of as timers_of};
 ghost use Rattle.vn_arp.specs.Kept.{is_kept_at, without_numbered};
 ghost use Rattle.vn_arp.specs.Answers.{turn_as};
+ghost use Rattle.vn_arp.specs.Listing.{row_of};
 
 use crate::answers::Turn;
 use crate::packets::Packets;
@@ -77,6 +78,13 @@ impl Neighbour {
         ensures { result ≡ self.now.entry.ip }
     {
         self.ip
+    }
+
+    /// What a listing tells of it.
+    pub(crate) fn row(&self) -> (HalfId, Ip4, Option<Mac>, ArpState)
+        ensures { result ≡ row_of self.now.entry }
+    {
+        (self.half, self.ip, self.mac, self.state)
     }
 
     pub(crate) fn arm(&self) -> Option<u64>

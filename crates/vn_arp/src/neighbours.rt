@@ -88,6 +88,12 @@ impl Neighbours {
             .any(|neighbour| neighbour.ip().0 == ip.0)
     }
 
+    pub(crate) fn as_slice(&self) -> &[Neighbour]
+        ensures { result.now ≡ self.now }
+    {
+        self.entries.as_slice()
+    }
+
     pub(crate) fn allocator(&self) -> Global {
         *self.entries.allocator()
     }

@@ -11,10 +11,12 @@ ghost use Rattle.vn_rules.specs.Resolution.{after_arp_delete, after_input, after
 ghost use Rattle.vn_callout.specs.Stacks.{of as timers_of};
 ghost use Rattle.vn_arp.specs.Kept.{entries_of, KnowsArms, Follows};
 ghost use Rattle.vn_arp.specs.Answers.{after_resolution, is_request, resolution, turn_as};
+ghost use Rattle.vn_arp.specs.Listing.{nth_entry, row_of};
 ghost use Rattle.vn_arp.specs.Stacks.{of};
 
 use crate::answers::{Learned, Resolved, Turn};
 use crate::gone::{Gone, On, Uncovered};
+use crate::listing::row_at;
 use crate::neighbours::Neighbours;
 use crate::packets::Packets;
 use bytes::Bytes;
@@ -22,6 +24,7 @@ use std::alloc::Global;
 use std::marker::Model;
 use vn_callout::Wheel;
 use vn_link::ArpPacket;
+use vn_rules::ArpState;
 use vn_types::{Covering, Errno, HalfId, Ip4, Mac, NoMemory, PerStack, Sid};
 
 /// The operation of a request (RFC 826).
@@ -69,6 +72,14 @@ impl ArpTable {
         ensures { result ≡ hit half_id_eq half ip (entries_of (of self.now sid.0)) }
     {
         self.stacks.at(sid)?.hit(half, ip)
+    }
+
+    /// What a listing tells of a stack's entry at a place by address, number of the pair and side, counted
+    /// from 0: half, address, hardware address and state. There is none past the end.
+    pub fn at(&self, sid: Sid, place: u64) -> Option<(HalfId, Ip4, Option<Mac>, ArpState)>
+        ensures { result ≡ option_map row_of (nth_entry place (entries_of (of self.now sid.0))) }
+    {
+        row_at(self.stacks.at(sid)?.as_slice(), place)
     }
 
     /// What becomes of a datagram that a stack sends to a neighbour on a half: it is handed back with the
