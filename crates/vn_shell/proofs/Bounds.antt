@@ -205,7 +205,7 @@ mac_in word = mac_pieces_in (slice_split (λ c. c == colon) word)
 abbrev pub IsIfName : IfName → Type 0
 IsIfName name = is_ifname name ≡ true
 
-unit_parts_in : (unit : List ℕ) (side : ℕ) → IfSome (unit_side_parts unit side) (λ u. is_unit u.0 ≡ true)
+pub unit_parts_in : (unit : List ℕ) (side : ℕ) → IfSome (unit_side_parts unit side) (λ u. is_unit u.0 ≡ true)
 unfolding unit_side_parts
 unit_parts_in unit side =
     some_then (λ s. Unit {0}) (λ (u : ℕ × Side). is_unit u.0 ≡ true) (side_of side) _ (some_at (λ s. Unit {0}) (side_of side) (λ s e. tt))

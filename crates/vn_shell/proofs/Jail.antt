@@ -24,7 +24,7 @@ use Rattle.vn_shell.proofs.Settings.{Alone, alone, once, times-word}
 
 -- ---- one setting
 
-no_path : path_of [] ≡ None
+pub no_path : path_of [] ≡ None
 unfolding path_of labels_of is_path pieces is_label
 no_path = refl
 

@@ -9,6 +9,15 @@ pub mod Jail
 pub mod Requests
 pub mod Meanings
 pub mod ReadParts
+pub mod Lists
 pub mod SpacedWords
 pub mod ReadBack
+pub mod Data
+pub mod ByWords
+pub mod WrittenJail
 pub mod Written
+pub mod Lengths
+pub mod CellSets
+pub mod Histories
+pub mod EventBounds
+pub mod WrittenHistory

@@ -14,7 +14,7 @@ use Rattle.vn_shell.specs.declared.forms.Forms.{Forms}
 use Rattle.vn_shell.specs.declared.forms.Forms.TheVariants.{All, Built}
 use Rattle.vn_shell.specs.declared.item.Item.{Item}
 use Rattle.vn_shell.specs.declared.item.Item.TheVariants as item
-use Rattle.vn_shell.specs.declared.lines.TheConstants.{MOST_LABELS}
+use Rattle.vn_shell.specs.declared.lines.TheConstants.{MOST_LABELS, MOST_OCTETS}
 use Rattle.vn_shell.specs.declared.script.Reason.{Reason}
 use Rattle.vn_shell.specs.declared.script.Reason.TheVariants as reason
 use Rattle.vn_shell.specs.Words.{words_of, is_filled, is_form, lane_of, wait_of}
@@ -182,7 +182,7 @@ longer forms i n m less h = record {
 
 line_in : (forms : Forms) (line : List ℕ) → IfItem (line_of forms line) (CanHappen forms (length line + 1))
 unfolding line_of
-line_in forms line = by (is_text line) (is_comment line) (line_of_words forms (words_of line)) (words_in forms (words_of line) (words-filled line))
+line_in forms line = by (is_text MOST_OCTETS line) (is_comment line) (line_of_words forms (words_of line)) (words_in forms (words_of line) (words-filled line))
   where
     by : (a b : Bool) (r : Result (Option Item) Reason) → IfItem r (CanHappen forms (room (words_of line))) → IfItem (cond (not a) (Err reason.Text) (cond b (Ok None) r)) (CanHappen forms (length line + 1))
     by true true r h = tt

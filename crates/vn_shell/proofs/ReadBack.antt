@@ -45,7 +45,8 @@ use Rattle.vn_shell.specs.Commands.Route.{everywhere, host_route, network_route,
 use Rattle.vn_shell.specs.Commands.Sysctl.{around, assignment_of}
 use Rattle.vn_shell.specs.Commands.Udp.{digits_of, zeros_of, payload_of}
 use Rattle.vn_shell.proofs.Bounds.{is_named}
-use Rattle.vn_shell.proofs.SpacedWords.{is_between, apart_from, lacks_all, ip_lacks, prefix_word, mac_lacks, path_lacks, filled_read, is_hex, hex_all}
+use Rattle.vn_shell.proofs.Jail.{no_path}
+use Rattle.vn_shell.proofs.SpacedWords.{is_between, apart_from, lacks_all, ip_lacks, prefix_word, number_graphic, mac_graphic, path_graphic, filled_read}
 
 -- a word that reads is no word that does not
 pub not_same : {X : Type 0} (read : List ℕ → Option X) (x : X) (word text : List ℕ) → read text ≡ None → read word ≡ Some x → bytes_eq word text ≡ false
@@ -235,112 +236,20 @@ assignment_back name n h small =
     ap (λ o. o >>= λ parts. name_of parts.0 >>= λ first. number_of parts.1 >>= λ value. Some (first, value)) (cut equals name (decimal n) (name_lacks name h) (decimal_lacks equals n refl small)).parts
     ∙ ap₂ (λ o p. o >>= λ first. p >>= λ value. Some (first, value)) (name_back name h) (number_read_back n small)
 
--- ---- data of datagrams
-
--- a digit that is written is that of the table
-digit_is : (d : ℕ) → d < 16 → digit_char d ≡ slice_index lower_digits d
-digit_is zero h = refl
-digit_is (suc zero) h = refl
-digit_is (suc (suc zero)) h = refl
-digit_is (suc (suc (suc zero))) h = refl
-digit_is (suc (suc (suc (suc zero)))) h = refl
-digit_is (suc (suc (suc (suc (suc zero))))) h = refl
-digit_is (suc (suc (suc (suc (suc (suc zero)))))) h = refl
-digit_is (suc (suc (suc (suc (suc (suc (suc zero))))))) h = refl
-digit_is (suc (suc (suc (suc (suc (suc (suc (suc zero)))))))) h = refl
-digit_is (suc (suc (suc (suc (suc (suc (suc (suc (suc zero))))))))) h = refl
-digit_is (suc (suc (suc (suc (suc (suc (suc (suc (suc (suc zero)))))))))) h = refl
-digit_is (suc (suc (suc (suc (suc (suc (suc (suc (suc (suc (suc zero))))))))))) h = refl
-digit_is (suc (suc (suc (suc (suc (suc (suc (suc (suc (suc (suc (suc zero)))))))))))) h = refl
-digit_is (suc (suc (suc (suc (suc (suc (suc (suc (suc (suc (suc (suc (suc zero))))))))))))) h = refl
-digit_is (suc (suc (suc (suc (suc (suc (suc (suc (suc (suc (suc (suc (suc (suc zero)))))))))))))) h = refl
-digit_is (suc (suc (suc (suc (suc (suc (suc (suc (suc (suc (suc (suc (suc (suc (suc zero))))))))))))))) h = refl
-digit_is (suc (suc (suc (suc (suc (suc (suc (suc (suc (suc (suc (suc (suc (suc (suc (suc n)))))))))))))))) h = absurd (omega (arith, h))
-
-hex_is : (octets : List ℕ) → list_all is_octet octets ≡ true → flat_map hex_octet octets ≡ encode_lower octets
-unfolding encode_with
-hex_is [] h = refl
-hex_is (n ∷ octets) h =
-    let at = and_parts (is_octet n) (list_all is_octet octets) h in
-    let small = ltb-true n 256 at.0 in
-    ap₂ (λ a b. a ∷ b) (digit_is (n / 16) (omega (arith, small))) (ap₂ (λ a b. a ∷ b) (digit_is (n % 16) (omega (arith, small))) (hex_is octets at.1))
-
-octet_index : (octets : List ℕ) → list_all is_octet octets ≡ true → (k : ℕ) → slice_index octets k < 256
-octet_index [] h k = omega arith
-octet_index (n ∷ octets) h zero = ltb-true n 256 (and_parts (is_octet n) (list_all is_octet octets) h).0
-octet_index (n ∷ octets) h (suc k) = octet_index octets (and_parts (is_octet n) (list_all is_octet octets) h).1 k
-
-digits_back : (octets : List ℕ) → list_all is_octet octets ≡ true → 1 ≤ length octets → length octets ≤ 2048 → digits_of (flat_map hex_octet octets) ≡ Some (payload.Digits octets)
-unfolding digits_of
-digits_back octets h least most = subst (λ word. digits_of word ≡ Some (payload.Digits octets)) (sym (hex_is octets h)) read
-  where
-    twice : length (encode_lower octets) ≡ 2 * length octets
-    twice = length-encode_with lower_digits octets
-
-    read : digits_of (encode_lower octets) ≡ Some (payload.Digits octets)
-    read =
-        ap₂ (λ a b. cond (a && b) (option_map payload.Digits (result_ok (decode_of (encode_lower octets)))) None)
-        (le-leb 2 (length (encode_lower octets)) (omega (arith, twice, least))) (le-leb (length (encode_lower octets)) 4096 (omega (arith, twice, most)))
-        ∙ ap (λ r. option_map payload.Digits (result_ok r)) (decode_of-encode_lower octets (octet_index octets h))
-
-all_take : (p : ℕ → Bool) (n : ℕ) (xs : List ℕ) → list_all p xs ≡ true → list_all p (take n xs) ≡ true
-all_take p zero xs h = refl
-all_take p (suc n) [] h = refl
-all_take p (suc n) (x ∷ xs) h = let at = and_parts (p x) (list_all p xs) h in and_from _ _ at.0 (all_take p n xs at.1)
-
-hex_word : List ℕ → Option (List ℕ)
-hex_word word = such_that (list_all is_hex) word
-
-no_hex : hex_word (codes "zero:") ≡ None
-unfolding hex_word
-no_hex = refl
-
-no_zero : (word : List ℕ) → list_all is_hex word ≡ true → behind (codes "zero:") word ≡ None
-unfolding hex_word
-no_zero word h =
-    ap (λ b. cond b (Some (drop 5 word)) None)
-    (not_same hex_word (take 5 word) (take 5 word) (codes "zero:") no_hex (such_back (list_all is_hex) (take 5 word) (all_take is_hex 5 word h)))
-
-pub payload_back : (body : Payload) → is_valid_payload body ≡ true → payload_of (payload_text body) ≡ Some body
-unfolding payload_of payload_text zeros_of is_valid_payload
-payload_back (payload.Digits octets) h =
-    let at = and_parts (list_all is_octet octets && nat_le 1 (length octets)) (nat_le (length octets) 2048) h in
-    let one = and_parts (list_all is_octet octets) (nat_le 1 (length octets)) at.0 in
-    ap (λ o. option_map_or zeros_of o (digits_of (flat_map hex_octet octets))) (no_zero (flat_map hex_octet octets) (hex_all octets one.0))
-    ∙ digits_back octets one.0 (leb-true 1 (length octets) one.1) (leb-true (length octets) 2048 at.1)
-payload_back (payload.Zero n) h =
-    ap (option_map payload.Zero) (number_back (λ number. nat_le number 20000) n (omega (arith, leb-true n 20000 h)) h)
-
-first_filled : (octets : List ℕ) → 1 ≤ length octets → is_filled (flat_map hex_octet octets) ≡ true
-first_filled [] h = absurd (omega (arith, h))
-first_filled (n ∷ octets) h = refl
-
-pub payload_word : (body : Payload) → is_valid_payload body ≡ true → is_between (payload_text body) ≡ true
-unfolding payload_text is_valid_payload
-payload_word (payload.Digits octets) h =
-    let at = and_parts (list_all is_octet octets && nat_le 1 (length octets)) (nat_le (length octets) 2048) h in
-    let one = and_parts (list_all is_octet octets) (nat_le 1 (length octets)) at.0 in
-    and_from _ _ (lacks_all is_hex space refl (flat_map hex_octet octets) (hex_all octets one.0)) (first_filled octets (leb-true 1 (length octets) one.1))
-payload_word (payload.Zero n) h = and_from _ _ (decimal_lacks space n refl (omega (arith, leb-true n 20000 h))) refl
-
 -- ---- words between spaces
 
 pub number_word : (n : ℕ) → n < 2 ^ 64 → is_between (decimal n) ≡ true
-number_word n h = and_from _ _ (decimal_lacks space n refl h) (decimal_filled n h)
+number_word n h = and_from _ _ (number_graphic n h) (decimal_filled n h)
 
 no_mac : mac_of [] ≡ None
 unfolding mac_of mac_pieces
 no_mac = refl
 
 pub mac_word : (mac : Mac) → is_mac mac ≡ true → is_between (mac_text mac) ≡ true
-mac_word mac h = and_from _ _ (mac_lacks mac (mac_octets mac h)) (filled_read mac_of mac (mac_text mac) no_mac (mac_back mac h))
-
-no_path : path_of [] ≡ None
-unfolding path_of labels_of is_path pieces is_label
-no_path = refl
+mac_word mac h = and_from _ _ (mac_graphic mac (mac_octets mac h)) (filled_read mac_of mac (mac_text mac) no_mac (mac_back mac h))
 
 pub path_word : (path : Path) → is_path path ≡ true → is_between (path_text path) ≡ true
-path_word path h = and_from _ _ (path_lacks path h) (filled_read path_of path (path_text path) no_path (path_of-path_text path h))
+path_word path h = and_from _ _ (path_graphic path h) (filled_read path_of path (path_text path) no_path (path_of-path_text path h))
 
 pub dest_word : (to : Prefix) → is_prefix to ≡ true → is_between (destination_text to) ≡ true
 dest_word to h = by (is_default to)

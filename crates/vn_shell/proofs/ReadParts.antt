@@ -18,11 +18,9 @@ use Rattle.vn_shell.specs.declared.script.Reason.{Reason}
 use Rattle.vn_shell.specs.Words.{lines_of}
 use Rattle.vn_shell.specs.Grammar.{items_from, phases, parts_after, in_script, script_by, script_of}
 use Rattle.vn_shell.specs.Readings.{is_built_lane, is_built_part, is_built_script, lane_lines, lines_in, parts_in}
+use Rattle.vn_shell.proofs.Lists.{all_both}
 use Rattle.vn_shell.proofs.Meanings.{AllHappen, is_valid_item, is_built_item, items_in}
 use Rattle.vn_shell.proofs.Room.{room, room-lines}
-
-all_both : {X : Type 0} (p : X → Bool) (xs ys : List X) → list_all p xs ≡ true → list_all p ys ≡ true → list_all p (xs ++ ys) ≡ true
-all_both p xs ys h g = list_all-append p xs ys ∙ and_from _ _ h g
 
 all_more : {X : Type 0} (p : X → Bool) (xs : List X) (x : X) → list_all p xs ≡ true → p x ≡ true → list_all p (xs ++ x ∷ []) ≡ true
 all_more p xs x h e = all_both p xs (x ∷ []) h (and_from _ _ e refl)
@@ -127,3 +125,7 @@ script_valid text script e = parts_valid Built text script.parts (read_of (items
 pub script_built : (text : List ℕ) (script : Script) → script_of text ≡ Ok script → is_built_script script ≡ true
 unfolding script_by
 script_built text script e = parts_built text script.parts (read_of (items_from Built 1 (lines_of text)) script e)
+
+pub script_few : (text : List ℕ) (script : Script) → script_of text ≡ Ok script → 32 * length (lane_lines script) ≤ length text + 1
+unfolding script_by
+script_few text script e = parts_few text script.parts (read_of (items_from Built 1 (lines_of text)) script e)

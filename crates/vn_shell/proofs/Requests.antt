@@ -38,7 +38,7 @@ jail_fits program words e =
     some_weaker (Fits 23 (room words)) (Fits 28 (room (program ∷ words))) (jail_of words) (jail_in words)
     (λ c h. (h.0, λ built. omega (arith, h.1 built, ap length ((bytes_eq-Decides program (codes "jail")).0 e))))
 
-command_in : (words : List (List ℕ)) → IfSome (command_of words) (FitsAt words)
+pub command_in : (words : List (List ℕ)) → IfSome (command_of words) (FitsAt words)
 unfolding command_of
 command_in [] = tt
 command_in (program ∷ words) =

@@ -1,5 +1,6 @@
 -- A command reads as it is written.
 use Rattle.std.proofs.Common.{◌≡◌, ℕ, ◌+◌, ◌^◌, ◌<◌, ◌≤◌, ◌==◌, Bool, true, false, cond, ◌&&◌, not, List, [], ◌∷◌, ◌++◌, length, Option, Some, None, refl, sym, ap, ap₂, append_assoc, append-nil, ◌∙◌, arith, true≢false}
+use Rattle.std.specs.Char.{is_ascii_graphic}
 use Rattle.std.specs.Prelude.{codes, decimal, nat_le, nat_lt}
 use Rattle.std.specs.List.{list_all}
 use Rattle.std.specs.Option.{option_map, option_or}
@@ -17,7 +18,6 @@ use Rattle.vn_types.specs.Octets.{space, equals}
 use Rattle.vn_types.specs.Paths.{Path, is_host, is_path, path_text}
 use Rattle.vn_types.specs.Steps.{◌>>=◌}
 use Rattle.vn_types.specs.Words.{is_name, is_sock_name}
-use Rattle.vn_types.proofs.Cuts.{lacks}
 use Rattle.vn_cells.specs.declared.command.Command.{Command}
 use Rattle.vn_cells.specs.declared.command.Command.TheVariants as command
 use Rattle.vn_cells.specs.declared.command.Payload.{Payload}
@@ -28,98 +28,17 @@ use Rattle.vn_shell.specs.Words.{such_that, is_filled, words_of, named_of, port_
 use Rattle.vn_shell.specs.Commands.{command_of}
 use Rattle.vn_shell.specs.Commands.Arp.{arp_of}
 use Rattle.vn_shell.specs.Commands.Ifconfig.{pair_of, adding, inet_of, set_of, act_of, valued_of, ifconfig_of}
-use Rattle.vn_shell.specs.Commands.Jail.{is_limit, name_of as jail_name_of, limit_of as jail_limit_of, no_settings, with_value, with_word, command_in, settings_of, jail_of}
+use Rattle.vn_shell.specs.Commands.Jail.{is_limit}
 use Rattle.vn_shell.specs.Commands.Netstat.{netstat_of}
 use Rattle.vn_shell.specs.Commands.Ping.{past_count, limited_of, probe_of, ping_of}
 use Rattle.vn_shell.specs.Commands.Route.{dest_of, past_net, route_of}
 use Rattle.vn_shell.specs.Commands.Sysctl.{assignment_of, setting, sysctl_of}
 use Rattle.vn_shell.specs.Commands.Udp.{any_ip_of, endpoint, endpoint_of, connecting, peer_of, send_of, socket_of, udp_of, payload_of}
-use Rattle.vn_shell.proofs.Bounds.{is_named}
-use Rattle.vn_shell.proofs.ReadBack.{not_same, such_back, number_back, port_back, ttl_small, ttl_back, decimal_filled, ip_back, prefix_back, mac_back, ifname_back, name_back, sock_back, named_back, dest_back, dest_no_net, no_name, assignment_back, payload_back, payload_word, number_word, mac_word, path_word, dest_word}
-use Rattle.vn_shell.proofs.Settings.{command_after, whole_settings}
-use Rattle.vn_shell.proofs.SpacedWords.{is_between, spaced, words_spaced, filled_front, ip_word, prefix_word, name_word, sock_word, ifname_word}
-
--- what is written reads as the command
-abbrev pub ReadsBack : Command → Type 0
-ReadsBack c = command_of (words_of (command_text c)) ≡ Some c
-
--- by its words
-by_words : (c : Command) (word : List ℕ) (words : List (List ℕ)) → command_text c ≡ spaced (word ∷ words) → list_all is_between (word ∷ words) ≡ true → command_of (word ∷ words) ≡ Some c → ReadsBack c
-by_words c word words text between read = ap command_of (ap words_of text ∙ words_spaced word words between) ∙ read
-
-both : (a b : Bool) → a ≡ true → b ≡ true → (a && (b && true)) ≡ true
-both a b h g = and_from a (b && true) h (and_from b true g refl)
-
-alone : (a : Bool) → a ≡ true → (a && true) ≡ true
-alone a h = and_from a true h refl
-
-two : {A B C : Type 0} (first : List ℕ → Option A) (second : List ℕ → Option B) (make : A → B → C) (one other : List ℕ) (x : A) (y : B) → first one ≡ Some x → second other ≡ Some y → of_two first second make (one ∷ other ∷ []) ≡ Some (make x y)
-two first second make one other x y e f = ap₂ (λ o p. o >>= λ x. p >>= λ y. Some (make x y)) e f
-
--- ---- jail(8)
-
--- a path that a command names
-named : (issuer path : Path) → is_named_path issuer path ≡ true → is_named path ≡ true
-unfolding is_named_path
-named issuer path h = (and_parts (is_named path) (nat_le (length issuer + length path) 8) h).0
-
-is_path_named : (path : Path) → is_named path ≡ true → is_path path ≡ true
-is_path_named path h = (and_parts (is_path path) (not (is_host path)) h).0
-
-name_word_lacks : (path : Path) → is_named path ≡ true → is_between (codes "name=" ++ path_text path) ≡ true
-name_word_lacks path h = and_from _ _ (and_parts (lacks space (path_text path)) (is_filled (path_text path)) (path_word path (is_path_named path h))).0 refl
-
-limit_word : (limit : ℕ) → is_limit limit ≡ true → is_between (codes "children.max=" ++ decimal limit) ≡ true
-limit_word limit small =
-    and_from _ _ (and_parts (lacks space (decimal limit)) (is_filled (decimal limit)) (number_word limit (omega (arith, ltb-true limit 10000 small)))).0 refl
-
-made_plain : (path : Path) → is_named path ≡ true → settings_of ((codes "name=" ++ path_text path) ∷ codes "vnet" ∷ codes "persist" ∷ []) ≡ Some (command.JailCreate path 0)
-unfolding with_word jail_name_of jail_limit_of
-made_plain path h =
-    sym (whole_settings ((codes "name=" ++ path_text path) ∷ codes "vnet" ∷ codes "persist" ∷ []))
-    ∙ ap (λ o. with_value no_settings o None >>= λ more. command_after more (codes "vnet" ∷ codes "persist" ∷ [])) (named_back path h)
-
-made_limited : (path : Path) (limit : ℕ) → is_named path ≡ true → is_limit limit ≡ true
-    → settings_of ((codes "name=" ++ path_text path) ∷ codes "vnet" ∷ codes "persist" ∷ (codes "children.max=" ++ decimal limit) ∷ []) ≡ Some (command.JailCreate path limit)
-unfolding with_word jail_name_of jail_limit_of
-made_limited path limit h small =
-    sym (whole_settings ((codes "name=" ++ path_text path) ∷ codes "vnet" ∷ codes "persist" ∷ (codes "children.max=" ++ decimal limit) ∷ []))
-    ∙ ap (λ o. with_value no_settings o None >>= λ more. command_after more (codes "vnet" ∷ codes "persist" ∷ (codes "children.max=" ++ decimal limit) ∷ [])) (named_back path h)
-    ∙ ap (λ o. with_value (record { vnet = true; persist = true; name = Some path; limit = None }) None o >>= command_in) (number_back is_limit limit (omega (arith, ltb-true limit 10000 small)) small)
-
--- its text, with a limit and without
-limited_text : (path : Path) (limit : ℕ) → (limit == 0) ≡ false
-    → command_text (command.JailCreate path limit) ≡ spaced (codes "jail" ∷ codes "-c" ∷ (codes "name=" ++ path_text path) ∷ codes "vnet" ∷ codes "persist" ∷ (codes "children.max=" ++ decimal limit) ∷ [])
-unfolding command_text
-limited_text path limit e =
-    ap (λ b. codes "jail -c name=" ++ path_text path ++ codes " vnet persist" ++ cond b [] (codes " children.max=" ++ decimal limit)) e ∙ simp append_assoc
-
-plain_text : (path : Path) (limit : ℕ) → (limit == 0) ≡ true
-    → command_text (command.JailCreate path limit) ≡ spaced (codes "jail" ∷ codes "-c" ∷ (codes "name=" ++ path_text path) ∷ codes "vnet" ∷ codes "persist" ∷ [])
-unfolding command_text
-plain_text path limit e =
-    ap (λ b. codes "jail -c name=" ++ path_text path ++ codes " vnet persist" ++ cond b [] (codes " children.max=" ++ decimal limit)) e
-    ∙ append-nil (codes "jail -c name=" ++ path_text path ++ codes " vnet persist")
-
-creation_back : (path : Path) (limit : ℕ) → is_named path ≡ true → is_limit limit ≡ true → ReadsBack (command.JailCreate path limit)
-unfolding command_of jail_of
-creation_back path limit h small = by (limit == 0) refl
-  where
-    by : (b : Bool) → (limit == 0) ≡ b → ReadsBack (command.JailCreate path limit)
-    by true e =
-        by_words (command.JailCreate path limit) (codes "jail") (codes "-c" ∷ (codes "name=" ++ path_text path) ∷ codes "vnet" ∷ codes "persist" ∷ [])
-        (plain_text path limit e) (alone _ (name_word_lacks path h))
-        (made_plain path h ∙ ap (λ n. Some (command.JailCreate path n)) (sym (eqb-true limit 0 e)))
-    by false e =
-        by_words (command.JailCreate path limit) (codes "jail") (codes "-c" ∷ (codes "name=" ++ path_text path) ∷ codes "vnet" ∷ codes "persist" ∷ (codes "children.max=" ++ decimal limit) ∷ [])
-        (limited_text path limit e) (both _ _ (name_word_lacks path h) (limit_word limit small))
-        (made_limited path limit h small)
-
-removal_back : (path : Path) → is_named path ≡ true → ReadsBack (command.JailRemove path)
-unfolding command_of jail_of command_text
-removal_back path h =
-    by_words (command.JailRemove path) (codes "jail") (codes "-r" ∷ path_text path ∷ []) refl (alone _ (path_word path (is_path_named path h)))
-    (ap (option_map command.JailRemove) (named_back path h))
+use Rattle.vn_shell.proofs.ByWords.{ReadsBack, by_words, both, alone, two, named, is_path_named}
+use Rattle.vn_shell.proofs.Data.{payload_back, payload_word}
+use Rattle.vn_shell.proofs.ReadBack.{not_same, such_back, number_back, port_back, ttl_small, ttl_back, decimal_filled, ip_back, prefix_back, mac_back, ifname_back, name_back, sock_back, named_back, dest_back, dest_no_net, no_name, assignment_back, number_word, mac_word, path_word, dest_word}
+use Rattle.vn_shell.proofs.SpacedWords.{is_between, is_graphic, spaced, filled_front, ip_word, prefix_word, name_word, sock_word, ifname_word}
+use Rattle.vn_shell.proofs.WrittenJail.{creation_back, removal_back}
 
 -- ---- ifconfig(8)
 
@@ -131,7 +50,7 @@ unit_small : (unit : ℕ) → is_unit unit ≡ true → unit < 2 ^ 64
 unit_small unit h = omega (arith, ltb-true unit (2 ^ 32) h)
 
 epair_word : (unit : ℕ) → is_unit unit ≡ true → is_between (codes "epair" ++ decimal unit) ≡ true
-epair_word unit h = and_from _ _ (and_parts (lacks space (decimal unit)) (is_filled (decimal unit)) (number_word unit (unit_small unit h))).0 refl
+epair_word unit h = and_from _ _ (and_parts (is_graphic (decimal unit)) (is_filled (decimal unit)) (number_word unit (unit_small unit h))).0 refl
 
 pair_back : (unit : ℕ) → is_unit unit ≡ true → ReadsBack (command.EpairCreate unit)
 unfolding command_of ifconfig_of pair_of command_text
@@ -161,8 +80,8 @@ valued_back c name verb word words h text between valued =
 assigned_word : (name : List ℕ) (value : ℕ) → is_name name ≡ true → is_value value ≡ true → is_between (name ++ equals ∷ decimal value) ≡ true
 assigned_word name value h small =
     and_from _ _
-    (list_all-append (λ d. not (d == space)) name (equals ∷ decimal value)
-    ∙ and_from _ _ (and_parts (lacks space name) (is_filled name) (name_word name h)).0 (and_parts (lacks space (decimal value)) (is_filled (decimal value)) (number_word value (ltb-true value (2 ^ 64) small))).0)
+    (list_all-append is_ascii_graphic name (equals ∷ decimal value)
+    ∙ and_from _ _ (and_parts (is_graphic name) (is_filled name) (name_word name h)).0 (and_parts (is_graphic (decimal value)) (is_filled (decimal value)) (number_word value (ltb-true value (2 ^ 64) small))).0)
     (filled_front name equals (decimal value))
 
 -- ---- udp

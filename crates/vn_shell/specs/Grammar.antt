@@ -23,8 +23,8 @@ use Rattle.vn_shell.specs.Requests.{request_of, depth_in}
 use Rattle.vn_shell.specs.Words.{lane_of, wait_of, is_form}
 unfoldable pub use Rattle.vn_shell.specs.Words.{lines_of, words_of}
 
--- a step after one that was not refused
 infixl 10 ◌>>=◌
+-- a step after one that was not refused
 abbrev pub ◌>>=◌ : {A B : Type 0} → Result A Reason → (A → Result B Reason) → Result B Reason
 (Ok x) >>= f = f x
 (Err e) >>= f = Err e
@@ -98,19 +98,19 @@ line_of_words forms (word ∷ words) =
 abbrev pub is_printable : ℕ → Bool
 is_printable c = nat_le space c && nat_le c 0x7e
 
--- such octets, and at most 4,096 of them
-unfoldable pub is_text : List ℕ → Bool
-is_text line = list_all is_printable line && nat_le (length line) MOST_OCTETS
+-- such octets, and at most so many of them
+unfoldable pub is_text : ℕ → List ℕ → Bool
+is_text most line = list_all is_printable line && nat_le (length line) most
 
 -- the first octet is `#`
 unfoldable pub is_comment : List ℕ → Bool
 is_comment [] = false
 is_comment (c ∷ cs) = c == hash
 
--- what a line means, and nothing where it is skipped
+-- what a line of at most 4,096 octets means, and nothing where it is skipped
 unfoldable pub line_of : Forms → List ℕ → Result (Option Item) Reason
 line_of forms line =
-    if not (is_text line) then Err reason.Text
+    if not (is_text MOST_OCTETS line) then Err reason.Text
     else if is_comment line then Ok None
     else line_of_words forms (words_of line)
 

@@ -1,9 +1,12 @@
-//! Scripts, as they are read.
+//! Scripts, histories and sets of cells, as they are read.
 #![tactic(auto)]
 
+mod cells;
 mod command;
+mod event;
 mod fault;
 mod forms;
+mod history;
 mod item;
 mod laws;
 mod lines;
@@ -14,6 +17,8 @@ mod script;
 mod tests;
 mod words;
 
+pub use cells::read_cells;
 pub use command::read_command;
-pub use laws::law_of_written_commands;
+pub use history::{HistoryFault, read_history};
+pub use laws::{law_of_written_commands, law_of_written_histories};
 pub use script::{Reason, ScriptFault, read_script, read_whole_script};

@@ -20,7 +20,7 @@ use vn_types::{Path, place_of, read_path};
 const MOST_OCTETS: usize = 4096;
 
 /// The most labels that a path has, seen from host.
-const MOST_LABELS: u64 = 8;
+pub(crate) const MOST_LABELS: u64 = 8;
 
 /// The first line of a text, and what stands after it.
 pub(crate) fn next_line(text: &[u8]) -> Option<(&[u8], &[u8])>
@@ -42,7 +42,7 @@ pub(crate) fn next_line(text: &[u8]) -> Option<(&[u8], &[u8])>
 pub(crate) fn read_line(alloc: Global, forms: Forms, line: &[u8]) -> Result<Option<Item>, LineFault>
     ensures { Gives result (line_of forms line.now) }
 {
-    if !is_text(line) {
+    if !is_text(MOST_OCTETS, line) {
         return Err(LineFault::Refused(Reason::Text));
     }
     if is_comment(line) {
@@ -58,11 +58,12 @@ fn are_printable(line: &[u8]) -> bool
     line.iter().all(|c| 0x20 <= *c && *c <= 0x7e)
 }
 
+/// Whether a line has at most so many octets, each from 0x20 to 0x7e.
 #[tactic(auto, unfolding(crate::specs::Grammar::is_text))]
-fn is_text(line: &[u8]) -> bool
-    ensures { result ≡ is_text line.now }
+pub(crate) fn is_text(most: usize, line: &[u8]) -> bool
+    ensures { result ≡ is_text most line.now }
 {
-    are_printable(line) && line.len() <= MOST_OCTETS
+    are_printable(line) && line.len() <= most
 }
 
 #[tactic(auto, unfolding(crate::specs::Grammar::is_comment))]

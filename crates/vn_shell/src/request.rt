@@ -58,7 +58,7 @@ fn read_step(word: &[u8]) -> Option<Line>
 
 /// A table by its name.
 #[tactic(auto, unfolding(crate::specs::Requests::table_of))]
-fn read_table(word: &[u8]) -> Option<Table>
+pub(crate) fn read_table(word: &[u8]) -> Option<Table>
     ensures { result ≡ table_of word.now }
 {
     if word == b"if".as_slice() {

@@ -1,6 +1,6 @@
 ghost use Rattle.std.specs.Prelude.{◌≡◌, ◌+◌, ◌*◌, ◌≤◌, [], true, length, IfOk, IfErr, Ok};
 ghost use Rattle.vn_cells.specs.machine.Events.{is_valid_script};
-ghost use Rattle.vn_shell.specs.Grammar.{items_from, line_of, script_of, whole_script_of};
+ghost use Rattle.vn_shell.specs.Grammar.{items_from, line_of, script_by, script_of, whole_script_of};
 ghost use Rattle.vn_shell.specs.Readings.{Refuses, RefusesAt, IsPut, is_built_script, lane_lines, no_parts, parts_in};
 ghost use Rattle.vn_shell.specs.Words.{lines_of};
 ghost use Rattle.vn_shell.specs.declared.script.ScriptFault.TheVariants.{NoMemory as Lack};
@@ -59,8 +59,7 @@ pub fn read_script(alloc: Global, text: &[u8]) -> Result<Script, ScriptFault>
     // A lane line has at least 31 octets beside its end.
     ensures few { IfOk result (λ s. 32 * length (lane_lines s) ≤ length text.now + 1) }
 {
-    let parts = read_parts(alloc, Forms::Built, text)?;
-    Ok(Script { parts })
+    read_by(alloc, Forms::Built, text)
 }
 
 /// Reads a script by the whole grammar. A line between those of lanes is `phase`, `settle` or `sleep N`
@@ -70,7 +69,16 @@ pub fn read_whole_script(alloc: Global, text: &[u8]) -> Result<Script, ScriptFau
     ensures script { IfErr result (λ e. Refuses (whole_script_of text.now) e) }
     ensures valid { IfOk result (λ s. is_valid_script s ≡ true) }
 {
-    let parts = read_parts(alloc, Forms::All, text)?;
+    read_by(alloc, Forms::All, text)
+}
+
+/// Reads a script where these forms are taken.
+fn read_by(alloc: Global, forms: Forms, text: &[u8]) -> Result<Script, ScriptFault>
+    ensures ok { IfOk result (λ s. script_by forms text.now ≡ Ok s) }
+    ensures script { IfErr result (λ e. Refuses (script_by forms text.now) e) }
+    ensures valid { IfOk result (λ s. is_valid_script s ≡ true) }
+{
+    let parts = read_parts(alloc, forms, text)?;
     Ok(Script { parts })
 }
 

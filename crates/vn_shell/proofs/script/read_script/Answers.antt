@@ -1,21 +1,9 @@
-use Rattle.std.proofs.lemmas.Result.{err_from_is_err_and}
-use Rattle.vn_shell.proofs.ReadParts.{parts_valid, parts_built, parts_few}
-use Rattle.vn_shell.proofs.Scripts.{script_is, script_refused}
+use Rattle.std.proofs.lemmas.Result.{IfOk-weaker}
+use Rattle.vn_shell.proofs.ReadParts.{script_built, script_few}
 use Rattle.vn_shell.proofs.script.read_script.Goals as goal
 
-pub returns-in_err-parts-clause-script : goal.returns-in_err-parts-clause-script
-returns-in_err-parts-clause-script c =
-    let p = err_from_is_err_and c.from_residual.result c.from_residual.ensures.1 in
-    rw (p.1, p.2) (script_refused _ c.args.text.now c.in_err-parts.field-0.0 c.in_err-parts.ensures.script)
-
-pub returns-clause-ok : goal.returns-clause-ok
-returns-clause-ok c = script_is _ _ _ c.in_ok-parts.ensures.ok
-
-pub returns-clause-valid : goal.returns-clause-valid
-returns-clause-valid c = parts_valid _ c.args.text.now _ c.in_ok-parts.ensures.ok
-
 pub returns-clause-built : goal.returns-clause-built
-returns-clause-built c = parts_built c.args.text.now _ c.in_ok-parts.ensures.ok
+returns-clause-built c = IfOk-weaker c.read_by.result _ _ (λ script e. script_built c.args.text.now script e) c.read_by.ensures.ok
 
 pub returns-clause-few : goal.returns-clause-few
-returns-clause-few c = parts_few c.args.text.now _ c.in_ok-parts.ensures.ok
+returns-clause-few c = IfOk-weaker c.read_by.result _ _ (λ script e. script_few c.args.text.now script e) c.read_by.ensures.ok

@@ -1,7 +1,7 @@
 use Rattle.std.proofs.lemmas.Result.{err_from_is_err_and}
 use Rattle.vn_shell.proofs.ReadParts.{parts_valid}
 use Rattle.vn_shell.proofs.Scripts.{script_is, script_refused}
-use Rattle.vn_shell.proofs.script.read_whole_script.Goals as goal
+use Rattle.vn_shell.proofs.script.read_by.Goals as goal
 
 pub returns-in_err-parts-clause-script : goal.returns-in_err-parts-clause-script
 returns-in_err-parts-clause-script c =
