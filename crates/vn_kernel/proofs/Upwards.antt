@@ -6,7 +6,7 @@ use Rattle.std.proofs.lemmas.Bool.{or_parts}
 use Rattle.std.proofs.lemmas.List.{take_all}
 use Rattle.vn_types.specs.Paths.{Path, path_eq, above, parent}
 use Rattle.vn_types.specs.PathOrder.{path_eq-Decides}
-use Rattle.vn_types.proofs.Ancestors.{above-parent, any-above, length-parent}
+use Rattle.vn_types.proofs.Ancestors.{above-parent, length-parent, not-above}
 use Rattle.vn_cells.specs.declared.world.Stack.{Stack}
 use Rattle.vn_cells.specs.declared.world.World.{World}
 use Rattle.vn_types.specs.Entries.{each}
@@ -15,33 +15,7 @@ use Rattle.vn_cells.specs.commands.Jails.{any_full, is_full, one_more_below}
 use Rattle.vn_laws.proofs.edits.Cells.{stack_at-each_stack}
 use Rattle.vn_kernel.specs.Worlds.{IsUpwards, one_more_at, one_more_in_each}
 
--- ---- how the ancestors are found
-
--- a path and its ancestors, but host
-abbrev pub from : Path → List Path
-from [] = []
-from (l ∷ p) = (l ∷ p) ∷ above (l ∷ p)
-
-pub from-below : (p : Path) → 0 < length p → from p ≡ p ∷ above p
-from-below [] some = absurd (omega arith)
-from-below (l ∷ p) some = refl
-
--- a path's ancestors begin with its parent
-pub above-from : (p : Path) → above p ≡ from (parent p)
-unfolding above
-above-from [] = refl
-above-from (l ∷ []) = refl
-above-from (l ∷ n ∷ q) = above-parent l n q ∙ sym (from-below (parent (l ∷ n ∷ q)) (omega (arith, length-parent l (n ∷ q))))
-
-pub from-host : (p : Path) → length p ≤ 0 → from p ≡ []
-from-host [] none = refl
-from-host (l ∷ p) none = absurd (omega arith)
-
-pub shorter : (p : Path) → 0 < length p → length (parent p) < length p
-shorter [] some = absurd (omega arith)
-shorter (l ∷ p) some = omega (arith, length-parent l p)
-
--- and each of them is followed by its own
+-- each ancestor is followed by its own
 pub above-upwards : (n : ℕ) (p : Path) → length p ≤ n → IsUpwards (above p)
 unfolding above
 above-upwards n [] few = tt
@@ -50,10 +24,6 @@ above-upwards zero (l ∷ m ∷ q) few = absurd (omega arith)
 above-upwards (suc n) (l ∷ m ∷ q) few = subst IsUpwards (sym (above-parent l m q)) (refl, above-upwards n (parent (l ∷ m ∷ q)) (omega (arith, length-parent l (m ∷ q))))
 
 -- ---- what is told to them
-
--- a path is not above itself
-not_above : (p : Path) → list_any (path_eq p) (above p) ≡ false
-not_above p = any-above p p ∙ grind (arith, (path_eq-Decides p p).1 refl)
 
 told_none : (ps : List Path) (q : Path) → (if list_any (path_eq q) ps then one_more_below no_stack else no_stack) ≡ no_stack
 told_none ps q = by (list_any (path_eq q) ps)
@@ -64,7 +34,7 @@ told_none ps q = by (list_any (path_eq q) ps)
 
 -- a path's own stack is not told of it
 pub untold : (p : Path) (w : World) → stack_at (one_more_in_each (above p) w) p ≡ stack_at w p
-untold p w = stack_at-each_stack _ w p (told_none (above p) p) ∙ ap (λ b. if b then one_more_below (stack_at w p) else stack_at w p) (not_above p)
+untold p w = stack_at-each_stack _ w p (told_none (above p) p) ∙ ap (λ b. if b then one_more_below (stack_at w p) else stack_at w p) (not-above p)
 
 told_nobody : (es : List (Path × Stack)) → each (λ q s. s) es ≡ es
 unfolding each
@@ -89,7 +59,7 @@ told_after p ps apart (e ∷ es) = λ i. (e.0, by (path_eq e.0 p) refl i) ∷ to
 -- a path is told after its own ancestors
 pub one_more_in_each-next : (p : Path) (w : World) → one_more_at p (one_more_in_each (above p) w) ≡ one_more_in_each (p ∷ above p) w
 unfolding each_stack
-one_more_in_each-next p w = ap (λ es. record w { stacks = es }) (told_after p (above p) (not_above p) w.stacks)
+one_more_in_each-next p w = ap (λ es. record w { stacks = es }) (told_after p (above p) (not-above p) w.stacks)
 
 -- ---- the first of them, and the rest
 

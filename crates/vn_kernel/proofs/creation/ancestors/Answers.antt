@@ -1,7 +1,7 @@
 use Rattle.std.proofs.Common.{◌++◌, ◌∷◌, [], ◌<◌, List, length, sym, ap, ap₂, ◌∙◌, append_assoc, arith}
 use Rattle.std.proofs.lemmas.List.{append-nil}
-use Rattle.vn_types.specs.Paths.{Path, parent}
-use Rattle.vn_kernel.proofs.Upwards.{from, above-from, from-host, from-below, shorter}
+use Rattle.vn_types.specs.Paths.{Path, from, parent}
+use Rattle.vn_types.proofs.Ancestors.{above-from, from-none, from-below, shorter}
 use Rattle.vn_kernel.proofs.creation.ancestors.Goals as goal
 
 pub loop-ancestor-init : goal.loop-ancestor-init
@@ -22,5 +22,5 @@ loop-ancestor-preserved c =
 
 pub returns : goal.returns
 returns c =
-    sym (append-nil c.loop-ancestor.ancestors) ∙ ap (λ (ps : List Path). c.loop-ancestor.ancestors ++ ps) (sym (from-host c.loop-ancestor.ancestor (omega (arith, c.depth.ensures.depth, c.loop-ancestor-test.false))))
+    sym (append-nil c.loop-ancestor.ancestors) ∙ ap (λ (ps : List Path). c.loop-ancestor.ancestors ++ ps) (sym (from-none c.loop-ancestor.ancestor (omega (arith, c.depth.ensures.depth, c.loop-ancestor-test.false))))
     ∙ c.loop-ancestor.invariant

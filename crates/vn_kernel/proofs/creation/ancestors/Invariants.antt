@@ -1,6 +1,5 @@
 use Rattle.std.proofs.Common.{◌≡◌, ◌++◌, length}
-use Rattle.vn_types.specs.Paths.{above}
-use Rattle.vn_kernel.proofs.Upwards.{from}
+use Rattle.vn_types.specs.Paths.{above, from}
 use Rattle.vn_kernel.proofs.creation.ancestors.Given as goal
 
 -- those that are found, and then those from there on
