@@ -4,3 +4,5 @@ pub mod Removal
 pub mod Edits
 pub mod Followed
 pub mod Listed
+pub mod Known
+pub mod Armed

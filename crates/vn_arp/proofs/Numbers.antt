@@ -6,23 +6,26 @@ use Rattle.std.specs.Ordering.{match_ordering}
 use Rattle.std.specs.declared.cmp.Ordering.{Ordering}
 use Rattle.std.specs.declared.cmp.Ordering.TheVariants.{Less, Equal, Greater}
 use Rattle.std.specs.BTreeMap.{insert_entry}
-use Rattle.std.proofs.lemmas.Bool.{or_parts, both_ways, false_from_ne_true, eq-eqb, eqb-true}
+use Rattle.std.proofs.lemmas.Bool.{and_parts, and_from, or_parts, or_from, not-true, not_from_false, both_ways, false_from_ne_true, eq-eqb, eqb-true}
 use Rattle.std.proofs.lemmas.Bool.Decides.{nat_tests}
+use Rattle.std.proofs.lemmas.List.Folds.{list_any_none}
 use Rattle.std.proofs.lemmas.List.Elements.{All-from_recursion, recursion_from_All, All-filter, All-weaker, filter_passes}
 use Rattle.vn_types.specs.declared.address.Ip4.{Ip4}
 use Rattle.vn_rules.specs.declared.timer.TimerOf.{TimerOf}
 use Rattle.vn_rules.specs.declared.timer.TimerOf.TheVariants.{Arp, Ping}
 use Rattle.vn_rules.specs.declared.timer.TimersOf.{TimersOf}
 use Rattle.vn_rules.specs.Arp.{is_timer_where, is_place, without_timers_where, without_timer_at}
+use Rattle.vn_rules.specs.Orders.{are_distinct}
 use Rattle.vn_rules.specs.Timers.{Turn, turn_cmp, Timed, after_arm, has_timer}
 use Rattle.vn_rules.proofs.ArpPlaces.{place_from_test, test_from_place}
+use Rattle.vn_rules.proofs.ListTests.{distinct_filter}
 use Rattle.vn_arp.specs.Kept.{is_numbered, without_numbered, Tells}
 
 -- ---- lists
 
 module _ {A : Type 0} where
   -- what two facts say of each element
-  all_by_both : (P Q R : A → Type 0) → ((x : A) → P x → Q x → R x) → (xs : List A) → AllByRecursion P xs → AllByRecursion Q xs → AllByRecursion R xs
+  pub all_by_both : (P Q R : A → Type 0) → ((x : A) → P x → Q x → R x) → (xs : List A) → AllByRecursion P xs → AllByRecursion Q xs → AllByRecursion R xs
   all_by_both P Q R then [] ps qs = ps
   all_by_both P Q R then (x ∷ xs) ps qs = (then x ps.0 qs.0, all_by_both P Q R then xs ps.1 qs.1)
 
@@ -37,12 +40,16 @@ module _ {A : Type 0} where
 
 -- ---- a timer more
 
-same_arm : (x m y n : ℕ) → turn_cmp (x, m) (y, n) ≡ Equal → n ≡ m
+pub same_arm : (x m y n : ℕ) → turn_cmp (x, m) (y, n) ≡ Equal → n ≡ m
 same_arm x m y n same = grind (arith, nat_tests)
+
+pub given_later : (armed : ℕ) (o : Option ℕ) → IfSome o (λ arm. arm < armed) → IfSome o (λ arm. arm < armed + 1)
+given_later armed None below = tt
+given_later armed (Some arm) below = omega arith
 
 module _ {N : Type 0} where
   -- what holds of each timer and of a new one with a number of its own
-  all_inserted : (P : Timed N → Type 0) (at : Turn) (what : TimerOf N) (es : List (Timed N)) → list_any (λ (e : Timed N). e.0.1 == at.1) es ≡ false
+  pub all_inserted : (P : Timed N → Type 0) (at : Turn) (what : TimerOf N) (es : List (Timed N)) → list_any (λ (e : Timed N). e.0.1 == at.1) es ≡ false
       → AllByRecursion P es → P (at, what) → AllByRecursion P (insert_entry turn_cmp es at what)
   all_inserted P at what [] unused all here = (here, tt)
   all_inserted P at what (e ∷ es) unused all here =
@@ -53,6 +60,40 @@ module _ {N : Type 0} where
       by Less is other more = (here, all)
       by Equal is other more = absurd (both_ways _ other (eq-eqb e.0.1 at.1 (same_arm at.0 at.1 e.0.0 e.0.1 is)))
       by Greater is other more = (all.0, more)
+
+  -- whether two timers have one number
+  abbrev pub one_number : Timed N → Timed N → Bool
+  one_number e f = e.0.1 == f.0.1
+
+  -- the test reads the same from both sides
+  other_number : (n : ℕ) (es : List (Timed N)) → AllByRecursion (λ (e : Timed N). (e.0.1 == n) ≡ false) es → list_any (λ (e : Timed N). n == e.0.1) es ≡ false
+  other_number n [] others = refl
+  other_number n (e ∷ es) others =
+      or_from (n == e.0.1) _ (false_from_ne_true _ (λ same. both_ways _ others.0 (eq-eqb e.0.1 n (sym (eqb-true n e.0.1 same))))) (other_number n es others.1)
+
+  -- a new one with a number of its own is apart from the others
+  pub apart_inserted : (at : Turn) (what : TimerOf N) (es : List (Timed N)) → list_any (λ (e : Timed N). e.0.1 == at.1) es ≡ false
+      → are_distinct one_number es ≡ true → are_distinct one_number (insert_entry turn_cmp es at what) ≡ true
+  apart_inserted at what [] unused apart = refl
+  apart_inserted at what (e ∷ es) unused apart =
+      let test = or_parts (e.0.1 == at.1) _ unused in
+      let parts = and_parts (not (list_any (one_number e) es)) _ apart in
+      by (turn_cmp at e.0) refl test.0
+      (all_inserted (λ (f : Timed N). one_number e f ≡ false) at what es test.1 (all_from_none (one_number e) es (not-true _ parts.0)) test.0)
+      (apart_inserted at what es test.1 parts.1)
+    where
+      by : (o : Ordering) → turn_cmp at e.0 ≡ o → (e.0.1 == at.1) ≡ false → AllByRecursion (λ (f : Timed N). one_number e f ≡ false) (insert_entry turn_cmp es at what)
+          → are_distinct one_number (insert_entry turn_cmp es at what) ≡ true
+          → are_distinct one_number (match_ordering o ((at, what) ∷ e ∷ es) ((e.0, what) ∷ es) (e ∷ insert_entry turn_cmp es at what)) ≡ true
+      by Less is other alone more =
+          and_from _ _ (not_from_false _ (other_number at.1 (e ∷ es) (all_from_none (λ (f : Timed N). f.0.1 == at.1) (e ∷ es) unused))) apart
+      by Equal is other alone more = absurd (both_ways _ other (eq-eqb e.0.1 at.1 (same_arm at.0 at.1 e.0.0 e.0.1 is)))
+      by Greater is other alone more = and_from _ _ (not_from_false _ (list_any_none (one_number e) _ (All-from_recursion _ _ alone))) more
+
+  -- a number that was given before is not the next one
+  pub unnumbered : (armed : ℕ) (o : Option ℕ) → IfSome o (λ arm. arm < armed) → (e : Timed N) → e.0.1 ≡ armed → is_numbered o e ≡ false
+  unnumbered armed None below e is = refl
+  unnumbered armed (Some arm) below e is = false_from_ne_true _ (λ equal. let one : e.0.1 ≡ arm = eqb-true e.0.1 arm equal in absurd (omega arith))
 
   -- where no number is kept, no timer is stopped
   pub none-stopped : (t : TimersOf N) → t ≡ without_numbered None t
@@ -104,6 +145,7 @@ module _ {N : Type 0} (same : N → N → Bool) (decides : (g h : N) → Decides
     told-alike others alike = record {
       tells = λ own at. subst (λ arm. All (λ (e : Timed N). is_timer_where (is_place same own at) e.1 ≡ is_numbered arm e) t.standing) (sym (alike own at)) (known.tells own at);
       given = λ own at. subst (λ arm. IfSome arm (λ arm. arm < t.armed)) (sym (alike own at)) (known.given own at);
+      apart = known.apart;
     }
 
     -- where timers go whose numbers nobody keeps
@@ -111,6 +153,7 @@ module _ {N : Type 0} (same : N → N → Bool) (decides : (g h : N) → Decides
     told-fewer keep = record {
       tells = λ own at. All-filter keep (λ (e : Timed N). is_timer_where (is_place same own at) e.1 ≡ is_numbered (arms own at) e) t.standing (known.tells own at);
       given = known.given;
+      apart = distinct_filter keep one_number t.standing known.apart;
     }
 
     -- where no number is told, no timer stands
@@ -132,6 +175,7 @@ module _ {N : Type 0} (same : N → N → Bool) (decides : (g h : N) → Decides
     told-without gone others left = record {
       tells = λ own at. All-from_recursion _ _ (at_place own at (gone own at) refl);
       given = λ own at. below own at (gone own at) (left own at);
+      apart = distinct_filter keep one_number t.standing known.apart;
     }
       where
         keep : Timed N → Bool
@@ -168,6 +212,7 @@ module _ {N : Type 0} (same : N → N → Bool) (decides : (g h : N) → Decides
     told-armed half ip deadline others none unused told = record {
       tells = λ own at. All-from_recursion _ _ (at_place own at (is_place same half ip own at) refl);
       given = λ own at. below own at (is_place same half ip own at) (told own at);
+      apart = apart_inserted (deadline, t.armed) (Arp half ip) t.standing unused known.apart;
     }
       where
         IsTold : N → Ip4 → Option ℕ → Timed N → Type 0
@@ -180,13 +225,9 @@ module _ {N : Type 0} (same : N → N → Bool) (decides : (g h : N) → Decides
             (recursion_from_All (λ (e : Timed N). is_timer_where (is_place same half ip) e.1 ≡ false) t.standing none) (all_from_none (λ (e : Timed N). e.0.1 == t.armed) t.standing unused)
         old own at false is = recursion_from_All (IsTold own at (arms own at)) t.standing (known.tells own at)
 
-        unequal : (o : Option ℕ) → IfSome o (λ arm. arm < t.armed) → (e : Timed N) → e.0.1 ≡ t.armed → is_numbered o e ≡ false
-        unequal None below e is = refl
-        unequal (Some arm) below e is = false_from_ne_true _ (λ equal. let one : e.0.1 ≡ arm = eqb-true e.0.1 arm equal in absurd (omega arith))
-
         new : (own : N) (at : Ip4) (b : Bool) → is_place same half ip own at ≡ b → IsTold own at (cond b (Some t.armed) (arms own at)) ((deadline, t.armed), Arp half ip)
         new own at true is = place_turned half ip own at ∙ is ∙ sym (eq-eqb t.armed t.armed refl)
-        new own at false is = place_turned half ip own at ∙ is ∙ sym (unequal (arms own at) (known.given own at) ((deadline, t.armed), Arp half ip) refl)
+        new own at false is = place_turned half ip own at ∙ is ∙ sym (unnumbered t.armed (arms own at) (known.given own at) ((deadline, t.armed), Arp half ip) refl)
 
         at_place : (own : N) (at : Ip4) (b : Bool) → is_place same half ip own at ≡ b
             → AllByRecursion (IsTold own at (others own at)) (insert_entry turn_cmp t.standing (deadline, t.armed) (Arp half ip))
@@ -195,10 +236,6 @@ module _ {N : Type 0} (same : N → N → Bool) (decides : (g h : N) → Decides
             subst (λ arm. AllByRecursion (IsTold own at arm) (insert_entry turn_cmp t.standing (deadline, t.armed) (Arp half ip))) (sym here)
             (all_inserted (IsTold own at (cond b (Some t.armed) (arms own at))) (deadline, t.armed) (Arp half ip) t.standing unused (old own at b is) (new own at b is))
 
-        later : (o : Option ℕ) → IfSome o (λ arm. arm < t.armed) → IfSome o (λ arm. arm < t.armed + 1)
-        later None below = tt
-        later (Some arm) below = omega arith
-
         below : (own : N) (at : Ip4) (b : Bool) → others own at ≡ cond b (Some t.armed) (arms own at) → IfSome (others own at) (λ arm. arm < t.armed + 1)
         below own at true is = let next : t.armed < t.armed + 1 = omega arith in subst (λ arm. IfSome arm (λ arm. arm < t.armed + 1)) (sym is) next
-        below own at false is = subst (λ arm. IfSome arm (λ arm. arm < t.armed + 1)) (sym is) (later (arms own at) (known.given own at))
+        below own at false is = subst (λ arm. IfSome arm (λ arm. arm < t.armed + 1)) (sym is) (given_later t.armed (arms own at) (known.given own at))

@@ -1,5 +1,5 @@
 -- The entries of a stack, each with the arm number of its timer, beside the stack's timers.
-use Rattle.std.specs.Prelude.{◌≡◌, ℕ, ◌<◌, Bool, false, ◌==◌, not, List, [], ◌∷◌, map, Option, Some, None, IfSome, All, if◌then◌else◌}
+use Rattle.std.specs.Prelude.{◌≡◌, ℕ, ◌<◌, Bool, true, false, ◌==◌, not, List, [], ◌∷◌, map, Option, Some, None, IfSome, All, if◌then◌else◌}
 use Rattle.std.specs.List.{find, filter}
 use Rattle.std.specs.Option.{option_and_then}
 use Rattle.vn_types.specs.declared.address.Ip4.{Ip4}
@@ -7,6 +7,7 @@ use Rattle.vn_rules.specs.declared.arp.ArpEntryOf.{ArpEntryOf}
 use Rattle.vn_rules.specs.declared.parts.PartsOf.{PartsOf}
 use Rattle.vn_rules.specs.declared.timer.TimersOf.{TimersOf}
 use Rattle.vn_rules.specs.Arp.{is_place, is_entry_at, is_timer_where, with_entry}
+use Rattle.vn_rules.specs.Orders.{are_distinct}
 use Rattle.vn_rules.specs.Timers.{Timed}
 
 -- an entry, as the table keeps it
@@ -62,6 +63,8 @@ module _ {N : Type 0} (same : N → N → Bool) where
         → All (λ (e : Timed N). is_timer_where (is_place same half ip) e.1 ≡ is_numbered (arms half ip) e) t.standing
     -- it was given before
     pub given : (half : N) (ip : Ip4) → IfSome (arms half ip) (λ arm. arm < t.armed)
+    -- no two timers have one number
+    pub apart : are_distinct (λ (e : Timed N) (f : Timed N). e.0.1 == f.0.1) t.standing ≡ true
 
   -- the numbers that are kept are those of the entries' timers
   abbrev pub KnowsArms : List (KeptOf N) → TimersOf N → Type 0
