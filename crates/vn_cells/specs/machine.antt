@@ -9,6 +9,7 @@ pub mod Queues
 pub mod Local
 pub mod Step
 pub mod Deliveries
+pub mod Weight
 pub mod Timing
 pub mod Versions
 pub mod Snapshots

@@ -88,7 +88,7 @@ isolated_from {set} {v} {w} a b c sv sw (event ∷ events) valid closed =
         (run_from w (if k then event ∷ project_from set (step v event) events else project_from set (step v event) events))
     by true k ok closed more =
         let e = kept set v event k closed in
-        more (step w event) (alike-step a b c sv sw event ok e.inside) (belongs-step b sv event e.decided)
+        more (step w event) (alike-step a b c sv sw event ok k e.inside) (belongs-step b sv event e.decided)
         (belongs-step c sw event e.decided) (fine-step sw event ok).sound
     by false out ok closed more =
         let parts = or_parts (is_common event) (touches set v event) (left_out out) in

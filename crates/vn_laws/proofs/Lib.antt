@@ -9,6 +9,7 @@ pub mod Steps
 pub mod versions
 pub mod schedules
 pub mod growth
+pub mod settling
 pub mod Touched
 pub mod Opening
 pub mod Isolated

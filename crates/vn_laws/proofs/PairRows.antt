@@ -14,6 +14,7 @@ use Rattle.vn_rules.specs.Purge.{without_addr, without_names, purged}
 use Rattle.vn_rules.specs.Rules.{answer_by}
 use Rattle.vn_rules.specs.Scenes.{link_of, on_link}
 use Rattle.vn_rules.specs.Sockets.{unbound_from, without_grams_by}
+use Rattle.vn_packets.specs.AddressLinks.{up_rule, come_up_on, all_announced}
 use Rattle.vn_cells.specs.declared.cell.Cells.{Cells}
 use Rattle.vn_cells.specs.declared.event.Event.{Event}
 use Rattle.vn_cells.specs.declared.world.Pair.{Pair}
@@ -101,7 +102,7 @@ a_is_up w = option_map (λ (pair : Pair). pair.a.up) (pair_0 w)
 
 -- the worlds before and after
 a_down_then_up : (a_is_up loan_world ≡ Some false) × (a_is_up (step loan_world sets_up) ≡ Some true)
-unfolding pair_at run_from step commanded ran_by reach far_rule answer_by is_unit_free interface_named made_pair add_pair edit_stack each_stack each_pair stack_at find put each path_cmp path_eq key_cmp key_eq joined any_full created is_taken is_reserved moved_on moved purged without_names without_addr without_entries without_pings without_grams_by unbound_from half_eq near_answer near_rule local act_by placed_if placed told scene_in set_up on_link link_of above
+unfolding pair_at run_from step commanded ran_by reach far_rule answer_by is_unit_free interface_named made_pair add_pair edit_stack each_stack each_pair stack_at find put each path_cmp path_eq key_cmp key_eq joined any_full created is_taken is_reserved moved_on moved purged without_names without_addr without_entries without_pings without_grams_by unbound_from half_eq near_answer near_rule local act_by placed_if placed told scene_in set_up on_link link_of above up_rule come_up_on all_announced
 a_down_then_up = (refl, refl)
 
 jail_inside : in_pairs jail_and_pair ([], 0) ≡ true

@@ -6,6 +6,8 @@ use Rattle.std.specs.List.{list_all}
 use Rattle.std.proofs.lemmas.Bool.{and_parts, true≢false}
 use Rattle.std.proofs.lemmas.Bool.Decides.{Decides-eqb}
 use Rattle.vn_types.specs.declared.errno.Errno.TheVariants as errno
+use Rattle.vn_types.specs.declared.half.Half.{Half}
+use Rattle.vn_types.specs.declared.interface.IfOf.TheVariants.{Lo0}
 use Rattle.vn_types.specs.PathOrder.{path_eq-Decides}
 use Rattle.vn_types.proofs.Ancestors.{passes-above}
 use Rattle.vn_rules.specs.Rules.{Common, answer, refused}
@@ -16,20 +18,21 @@ use Rattle.vn_cells.specs.declared.event.Event.{Event}
 use Rattle.vn_cells.specs.declared.event.Event.TheVariants as event
 use Rattle.vn_cells.specs.declared.world.Children.{Children}
 use Rattle.vn_cells.specs.declared.world.Live.{Live}
+use Rattle.vn_cells.specs.declared.world.Pair.{Pair}
 use Rattle.vn_cells.specs.declared.world.Stack.{Stack}
 use Rattle.vn_cells.specs.declared.world.World.{World}
-use Rattle.vn_cells.specs.world.Names.{Path, path_eq, is_host, is_below}
-use Rattle.vn_cells.specs.world.World.{common_of, stack_at, is_alive}
+use Rattle.vn_cells.specs.world.Names.{Path, path_eq, key_of, is_host, is_below}
+use Rattle.vn_cells.specs.world.World.{common_of, stack_at, pair_at, is_alive}
 use Rattle.vn_cells.specs.machine.Events.{is_at_path, is_valid_command, is_valid_event}
 use Rattle.vn_cells.specs.machine.Reach.{Reach, Near, reach}
 use Rattle.vn_cells.specs.machine.Commands.{far_rule}
-use Rattle.vn_cells.specs.machine.Local.{Here, local, act}
-use Rattle.vn_cells.specs.machine.Queues.{has_datagram, has_due}
-use Rattle.vn_cells.specs.machine.Step.{entered, ran_by, commanded, where_true, acting, acted, step}
+use Rattle.vn_cells.specs.machine.Local.{Here, here_at, local, act}
+use Rattle.vn_cells.specs.machine.Queues.{arrival, has_datagram, has_due}
+use Rattle.vn_cells.specs.machine.Step.{entered, ran_by, commanded, where_true, acting, acted, received, delivered, step}
 use Rattle.vn_cells.specs.sets.Sets.{in_set, in_stacks, command_deciders, deciders}
 use Rattle.vn_cells.specs.keeping.Sound.{IsSound, living_below, counts_right, is_number}
 use Rattle.vn_cells.specs.keeping.Moved.{LeavesNothing}
-use Rattle.vn_cells.specs.sets.Changed.{is_common}
+use Rattle.vn_cells.specs.sets.Changed.{is_common, is_kept}
 use Rattle.vn_laws.specs.Relations.{Alike, Belongs}
 use Rattle.vn_laws.proofs.edits.Alike.{alike-edit_stack}
 use Rattle.vn_laws.proofs.edits.Cells.{clock-edit_stack}
@@ -37,9 +40,12 @@ use Rattle.vn_laws.proofs.edits.Counts.{one_living_less}
 use Rattle.vn_laws.proofs.edits.Shapes.{SameShape, shape_tree, belongs-shape}
 use Rattle.vn_laws.proofs.edits.Standing.{leaves_nothing, leaves_nothing-same, belongs-same}
 use Rattle.vn_laws.proofs.edits.Trees.{alive_tree}
-use Rattle.vn_laws.proofs.local.Acted.{KeepsTables, sound_scene, sound_after, tree-act_by, standing-act_by, clock-act_by, belongs-act_by, sound-act_by}
+use Rattle.vn_laws.proofs.local.Acted.{KeepsTables, tree-act_by, standing-act_by, clock-act_by, belongs-act_by, sound-act_by}
 use Rattle.vn_laws.proofs.local.Alike.{alike-local}
-use Rattle.vn_laws.proofs.local.Events.{shape-later, alike-later, standing-delivered, sound-delivered, clock-delivered, alike-delivered, either_acted, alike-acted, none-tables, looped-tables}
+use Rattle.vn_laws.proofs.local.Delivered.{standing-delivered, sound-delivered, clock-delivered, alike-delivered, looped-tables, fired-tables}
+use Rattle.vn_laws.proofs.local.Events.{shape-later, alike-later, either_acted, alike-acted, none-tables}
+use Rattle.vn_laws.proofs.local.Listed.{lists_in, lo0-listed}
+use Rattle.vn_laws.proofs.Touched.{untouched}
 use Rattle.vn_laws.proofs.rule.Answers.{answered, shape-entered, reached, either_way, commanded-keeps}
 use Rattle.vn_laws.proofs.rule.Alike.{AlikeRules, alike-answered}
 use Rattle.vn_laws.proofs.jails.Alike.{alive_alike}
@@ -50,15 +56,17 @@ use Rattle.vn_laws.proofs.edits.Lived.{IsNew, Lived, lived-same}
 
 -- ---- the machine's own rule keeps tables sound
 
-local-tables : (common : Common) (p : Path) (here : Here) (event : Event) → sound_scene here.scene ≡ true
-    → sound_after here.scene (local common p here event).scene ≡ true
-unfolding local
-local-tables common p here (event.Cmd lane path command) e = near-tables common command here.scene e
-local-tables common p here (event.LoopDeliver path) e = looped-tables here.scene e
-local-tables common p here _ e = none-tables here.scene
+-- the number of a command is within its bounds
+abbrev Bounded : Event → Type 0
+Bounded (event.Cmd lane issuer command) = is_valid_command issuer command ≡ true
+Bounded _ = Unit {0}
 
-tables-local : KeepsTables local
-tables-local = record { tables = local-tables }
+local-tables : (common : Common) (p : Path) (here : Here) (event : Event) → Bounded event → lists_in Lo0 here.scene ≡ true → KeepsTables local common p here event
+unfolding local
+local-tables common p here (event.Cmd lane issuer command) valid lo0 e = near-tables common issuer command valid here.scene lo0 e
+local-tables common p here (event.LoopDeliver path) valid lo0 e = looped-tables common here.scene here.readers lo0 e
+local-tables common p here (event.Fire path) valid lo0 e = fired-tables common here.scene here.readers e
+local-tables common p here _ valid lo0 e = none-tables here.scene
 
 -- ---- soundness
 
@@ -70,21 +78,21 @@ pub record StepFine (v w : World) : Type 0 where
 by_leaves : {v w : World} → Fine v w → StepFine v w
 by_leaves f = record { sound = f.sound; nothing = leaves_nothing f.leaves }
 
-fine-act : {v : World} → IsSound v → (p : Path) (event : Event) → StepFine v (act v p event)
-fine-act {v} s p event = record {
-  sound = sound-act_by tables-local s p event;
+fine-act : {v : World} → IsSound v → (p : Path) (event : Event) → Bounded event → StepFine v (act v p event)
+fine-act {v} s p event bounded = record {
+  sound = sound-act_by local s p event (local-tables (common_of v) p (here_at v p) event bounded (lo0-listed s p));
   nothing = leaves_nothing-same (standing-act_by local v p event).pairs;
 }
 
-fine-acted : {v : World} → IsSound v → (event : Event) → StepFine v (acted (acting v event) event v)
-fine-acted {v} s event = either_acted (StepFine v) (acting v event) event v (by_leaves (fine-none s)) (λ p. fine-act s p event)
+pub fine-acted : {v : World} → IsSound v → (event : Event) → Bounded event → StepFine v (acted (acting v event) event v)
+fine-acted {v} s event bounded = either_acted (StepFine v) (acting v event) event v (by_leaves (fine-none s)) (λ p. fine-act s p event bounded)
 
 pub fine-step : {v : World} → IsSound v → (event : Event) → is_valid_event event ≡ true → StepFine v (step v event)
 unfolding step is_valid_event
 fine-step {v} s (event.Cmd lane issuer command) valid =
     either_way (StepFine v) lane issuer command v
     (λ lives. reached (StepFine v) lane issuer command (reach issuer command) v
-    (fine-act s issuer (event.Cmd lane issuer command))
+    (fine-act s issuer (event.Cmd lane issuer command) (and_parts (is_at_path lane issuer) (is_valid_command issuer command) valid).1)
     (by_leaves (fine-shape
     (answered (Fine v) (far_rule (common_of v) issuer (reach issuer command) v) (fine-none s)
     (fine-far s (common_of v) issuer lives (reach issuer command) (fits issuer command (and_parts (is_at_path lane issuer) (is_valid_command issuer command) valid).1)))
@@ -95,7 +103,11 @@ fine-step {v} s (event.Deliver half) valid = record {
   sound = sound-delivered half v s;
   nothing = leaves_nothing-same (standing-delivered half v).pairs;
 }
-fine-step s event valid = fine-acted s event
+fine-step s (event.LoopDeliver path) valid = fine-acted s (event.LoopDeliver path) tt
+fine-step s (event.Fire path) valid = fine-acted s (event.Fire path) tt
+fine-step s (event.Open lane path table) valid = fine-acted s (event.Open lane path table) tt
+fine-step s (event.Next lane path) valid = fine-acted s (event.Next lane path) tt
+fine-step s (event.Close lane path) valid = fine-acted s (event.Close lane path) tt
 
 -- ---- what all cells share
 
@@ -179,24 +191,33 @@ module _ {set : Cells} {v w : World} (a : Alike set v w) (b : Belongs set v) (c 
   unfolding in_set
   acting_inside p all = (and_parts _ true all).0
 
-  pub alike-step : (event : Event) → is_valid_event event ≡ true → list_all (in_set set) (deciders v event) ≡ true
+  -- a delivery to a half whose pair does not exist touches nothing
+  pair-there : (half : Half) → is_kept set v (event.Deliver half) ≡ true → is_some (pair_at v (key_of half)) ≡ true
+  unfolding is_kept is_common step delivered received
+  pair-there half kept = by (pair_at v (key_of half)) refl
+    where
+      by : (o : Option Pair) → pair_at v (key_of half) ≡ o → is_some (pair_at v (key_of half)) ≡ true
+      by None is = absurd (true≢false (sym kept ∙ untouched set v (event.Deliver half) (ap (λ o. received (arrival half o) half v) is)))
+      by (Some pair) is = ap (λ (o : Option Pair). is_some o) is
+
+  pub alike-step : (event : Event) → is_valid_event event ≡ true → is_kept set v event ≡ true → list_all (in_set set) (deciders v event) ≡ true
       → Alike set (step v event) (step w event)
   unfolding step acting deciders is_valid_event
-  alike-step (event.Cmd lane issuer command) valid all =
+  alike-step (event.Cmd lane issuer command) valid kept all =
       alike-commanded lane issuer command (and_parts (is_at_path lane issuer) (is_valid_command issuer command) valid).1 all
-  alike-step (event.Tick n) valid all = alike-later a n
-  alike-step (event.Deliver half) valid all = alike-delivered a half
-  alike-step (event.LoopDeliver p) valid all =
+  alike-step (event.Tick n) valid kept all = alike-later a n
+  alike-step (event.Deliver half) valid kept all = alike-delivered a b sv half (pair-there half kept) all
+  alike-step (event.LoopDeliver p) valid kept all =
       let inside = acting_inside p all in
       subst (λ (s : Stack). Alike set (step v (event.LoopDeliver p)) (acted (where_true (has_datagram s.live) p) (event.LoopDeliver p) w))
       (a.stacks p inside) (alike-acted a b p (event.LoopDeliver p) inside (has_datagram (stack_at v p).live))
-  alike-step (event.Fire p) valid all =
+  alike-step (event.Fire p) valid kept all =
       let inside = acting_inside p all in
       subst (λ (x : ℕ × Stack). Alike set (step v (event.Fire p)) (acted (where_true (has_due x.0 x.1.live) p) (event.Fire p) w))
       (λ i. (a.clock i, a.stacks p inside i)) (alike-acted a b p (event.Fire p) inside (has_due v.clock (stack_at v p).live))
-  alike-step (event.Open lane p table) valid all = alike-acted a b p (event.Open lane p table) (acting_inside p all) true
-  alike-step (event.Next lane p) valid all = alike-acted a b p (event.Next lane p) (acting_inside p all) true
-  alike-step (event.Close lane p) valid all = alike-acted a b p (event.Close lane p) (acting_inside p all) true
+  alike-step (event.Open lane p table) valid kept all = alike-acted a b p (event.Open lane p table) (acting_inside p all) true
+  alike-step (event.Next lane p) valid kept all = alike-acted a b p (event.Next lane p) (acting_inside p all) true
+  alike-step (event.Close lane p) valid kept all = alike-acted a b p (event.Close lane p) (acting_inside p all) true
 
 -- ---- who is new
 

@@ -141,6 +141,21 @@ module _ (set : Cells) (v : World) (event : Event) (untouched : touches set v ev
       by true e = same-is (coded_option pair_code) _ _ (grind (arith, quiet (OfPair k.0 k.1) inside (pair_listed v (step v event) k e)))
       by false e = absent _ _ e
 
+-- ---- an event that leaves the world as it is
+
+none-differs : (w : World) (c : CellName) → differs w w c ≡ false
+unfolding differs
+none-differs w (OfStack p) = ap not (same-refl stack_code (stack_at w p))
+none-differs w (OfPair home unit) = ap not (same-refl (coded_option pair_code) (pair_at w (home, unit)))
+
+pub untouched : (set : Cells) (w : World) (event : Event) → step w event ≡ w → touches set w event ≡ false
+unfolding touches changed
+untouched set w event is = ap (λ v. list_any (in_set set) (filter (differs w v) (listed w v))) is ∙ none (listed w w)
+  where
+    none : (cells : List CellName) → list_any (in_set set) (filter (differs w w) cells) ≡ false
+    none [] = refl
+    none (c ∷ cells) = ap (λ b. list_any (in_set set) (cond b (c ∷ filter (differs w w) cells) (filter (differs w w) cells))) (none-differs w c) ∙ none cells
+
 -- ---- a stack of the set that is another after the event
 
 module _ (set : Cells) (w : World) (event : Event) (p : Path) (inside : in_stacks set p ≡ true)

@@ -4,5 +4,6 @@ pub mod Edits
 pub mod Links
 pub mod Jails
 pub mod Acted
+pub mod Near
 pub mod Steps
 pub mod Runs

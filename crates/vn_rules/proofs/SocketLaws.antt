@@ -46,7 +46,7 @@ module _ {N M : Type 0} (r : N → M) where
   automatic-renamed : (name : List ℕ) (ip : Option Ip4) (sockets : List (SocketOf N)) → automatic_port ip (others name (renames sockets)) ≡ automatic_port ip (others name sockets)
   automatic-renamed name ip sockets = ap (automatic_port ip) (others-renamed name sockets) ∙ automatic_port-renamed ip (others name sockets)
 
-  port_at-renamed : (ip : Option Ip4) (s : SocketOf N) (sockets : List (SocketOf N)) → port_at ip (as_socket r s) (renames sockets) ≡ port_at ip s sockets
+  pub port_at-renamed : (ip : Option Ip4) (s : SocketOf N) (sockets : List (SocketOf N)) → port_at ip (as_socket r s) (renames sockets) ≡ port_at ip s sockets
   port_at-renamed ip s sockets = ap (option_or s.port) (automatic-renamed s.name ip sockets)
 
   -- ---- what is left

@@ -1,6 +1,6 @@
 -- The events that act in one stack: they are handed its scene and its readers, and give them back.
 use Rattle.std.specs.Prelude.{ℕ, List, [], ◌∷◌, ◌++◌, map, length, Option, Some, None, if◌then◌else◌}
-use Rattle.std.specs.Option.{option_map}
+use Rattle.std.specs.Option.{option_map, option_map_or}
 use Rattle.vn_types.specs.declared.half.Half.{Half}
 use Rattle.vn_types.specs.declared.interface.Side.TheVariants.{A, B}
 use Rattle.vn_types.specs.declared.errno.Errno.{Errno}
@@ -10,6 +10,12 @@ use Rattle.vn_rules.specs.declared.parts.PartsOf.{PartsOf}
 use Rattle.vn_rules.specs.Rules.{Common, Answer, answer, refused}
 use Rattle.vn_rules.specs.declared.outcome.Outcome.{Outcome}
 use Rattle.vn_rules.specs.Scenes.{LinkOf, SceneOf, no_link, link_of}
+use Rattle.vn_rules.specs.declared.ping.PingOf.{PingOf}
+use Rattle.vn_packets.specs.declared.heard.Heard.{Heard as Told}
+use Rattle.vn_packets.specs.declared.heard.Heard.TheVariants.{Nothing, Pong, Fault}
+use Rattle.vn_packets.specs.Fired.{FiredOf, fired}
+use Rattle.vn_packets.specs.Icmp.{HeardOf}
+use Rattle.vn_packets.specs.Reception.{frame_received, loop_received}
 use Rattle.vn_cells.specs.declared.command.Command.{Command}
 use Rattle.vn_cells.specs.declared.event.Event.{Event}
 use Rattle.vn_cells.specs.declared.event.Event.TheVariants as event
@@ -26,7 +32,6 @@ use Rattle.vn_cells.specs.world.Names.{Path, Key, half_eq, half_name, halves_of,
 use Rattle.vn_cells.specs.world.World.{common_of, stack_at, ifs_of, end_at, entry_of, edit_stack, edit_live, each_pair}
 use Rattle.vn_cells.specs.machine.Commands.{near_rule}
 use Rattle.vn_cells.specs.machine.Listings.{if_rows, lines_of}
-use Rattle.vn_cells.specs.machine.Queues.{without_datagram}
 use Rattle.vn_cells.specs.machine.Readers.{reader_of, open_rule, next_rule, close_rule}
 
 -- what a local event is handed of the stack where it acts
@@ -169,8 +174,42 @@ heard_by lane command readers a = record {
 abbrev pub heard_reader : (Outcome → What) → Answer (List Reader) → Heard
 heard_reader line a = record { scene = None; readers = a.left; told = line a.outcome ∷ [] }
 
--- each event, in the stack where it acts. What a timer does is not built, and a timer is not taken without
--- it, since the ARP entry or the ping that it is for would be left with none
+-- what is told of an awaited ping
+abbrev pub told_ping : Told → List What
+told_ping Nothing = []
+told_ping (Pong from id ttl bytes) = what.Reply from id ttl bytes ∷ []
+told_ping (Fault kind code from id) = what.Icmp kind code from id ∷ []
+
+-- and of one that has waited too long
+abbrev pub told_timeout : Option (PingOf Half) → List What
+told_timeout None = []
+told_timeout (Some ping) = what.Timeout ping.dst ping.id ∷ []
+
+-- a scene that received something
+abbrev pub heard_in : HeardOf Half → List Reader → Heard
+heard_in a readers =
+    record { scene = Some a.left; readers = readers; told = told_ping a.heard }
+
+-- a scene where a timer fired
+abbrev pub fired_in : FiredOf Half → List Reader → Heard
+fired_in a readers =
+    record { scene = Some a.left; readers = readers; told = told_timeout a.timeout }
+
+-- where nothing lives nothing happens
+abbrev pub unheard : List Reader → Heard
+unheard readers = record { scene = None; readers = readers; told = [] }
+
+-- by the scene, where there is one
+abbrev pub heard_where : (SceneOf Half → List Reader → Heard) → Here → Heard
+heard_where rule here =
+    option_map_or (λ scene. rule scene here.readers) here.scene (unheard here.readers)
+
+-- a frame that was taken from its sender, in the stack where it comes to a half
+unfoldable pub hearing : Half → List ℕ → LocalRule
+hearing h frame common p here event =
+    heard_where (λ scene. heard_in (frame_received half_eq common h frame scene)) here
+
+-- each other event, in the stack where it acts
 unfoldable pub local : LocalRule
 local common p here (event.Cmd lane path command) =
     heard_by lane command here.readers (near_answer common command here.scene)
@@ -182,8 +221,10 @@ local common p here (event.Next lane path) =
 local common p here (event.Close lane path) =
     heard_reader (what.Close lane) (answer here.readers (close_rule lane here.readers))
 local common p here (event.LoopDeliver path) =
-    record { scene = option_map without_datagram here.scene; readers = here.readers; told = [] }
-local common p here _ = record { scene = None; readers = here.readers; told = [] }
+    heard_where (λ scene. heard_in (loop_received half_eq common scene)) here
+local common p here (event.Fire path) =
+    heard_where (λ scene. fired_in (fired half_eq common scene)) here
+local common p here _ = unheard here.readers
 
 -- an event at a path
 abbrev pub act : World → Path → Event → World

@@ -2,6 +2,7 @@
 use Rattle.std.specs.Prelude.{ℕ, Bool, true, false, List, [], ◌∷◌, Option, Some, None, if◌then◌else◌}
 use Rattle.vn_types.specs.declared.errno.Errno.{Errno}
 use Rattle.vn_types.specs.declared.errno.Errno.TheVariants as errno
+use Rattle.vn_types.specs.declared.half.Half.{Half}
 use Rattle.vn_types.specs.Refusals.{first_refusal}
 use Rattle.vn_rules.specs.declared.outcome.Outcome.{Outcome}
 use Rattle.vn_rules.specs.Rules.{Answer, answer, refused}
@@ -11,13 +12,13 @@ use Rattle.vn_cells.specs.declared.event.Event.TheVariants as event
 use Rattle.vn_cells.specs.declared.transcript.What.TheVariants as what
 use Rattle.vn_cells.specs.declared.world.Stack.{Stack}
 use Rattle.vn_cells.specs.declared.world.World.{World}
-use Rattle.vn_cells.specs.world.Names.{Path}
-use Rattle.vn_cells.specs.world.World.{no_stack, stack_at, is_alive, common_of, entry_of, noting, edit_stack, later}
+use Rattle.vn_cells.specs.world.Names.{Path, key_of}
+use Rattle.vn_cells.specs.world.World.{no_stack, stack_at, pair_at, is_alive, common_of, entry_of, noting, edit_stack, later}
 use Rattle.vn_cells.specs.machine.Reach.{Reach, Near, reach}
 use Rattle.vn_cells.specs.commands.Jails.{construct}
 use Rattle.vn_cells.specs.machine.Commands.{far_rule}
-use Rattle.vn_cells.specs.machine.Local.{act}
-use Rattle.vn_cells.specs.machine.Queues.{delivered, has_datagram, has_due}
+use Rattle.vn_cells.specs.machine.Local.{act, act_by, hearing}
+use Rattle.vn_cells.specs.machine.Queues.{arrival, taken, has_datagram, has_due}
 
 -- ---- commands
 
@@ -67,6 +68,15 @@ acting w _ = None
 unfoldable pub acted : Option Path → Event → World → World
 acted None event w = w
 acted (Some p) event w = act w p event
+
+-- a frame that came is taken from its sender and received where its half stands
+unfoldable pub received : Option (Path × List ℕ) → Half → World → World
+received None h w = w
+received (Some (p, frame)) h w = act_by (hearing h frame) (taken h w) p (event.Deliver h)
+
+-- the first frame to a half, if there is one
+unfoldable pub delivered : Half → World → World
+delivered h w = received (arrival h (pair_at w (key_of h))) h w
 
 -- one event
 unfoldable pub step : World → Event → World

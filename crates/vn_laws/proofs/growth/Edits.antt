@@ -13,7 +13,7 @@ use Rattle.vn_cells.specs.world.World.{stack_at, live_map, on_parts, edit_live, 
 use Rattle.vn_cells.specs.keeping.Standing.{passes}
 use Rattle.vn_laws.proofs.edits.Cells.{stack_at-edit_live}
 use Rattle.vn_laws.proofs.edits.Shapes.{SameShape}
-use Rattle.vn_laws.proofs.growth.Parts.{Numbers, numbers}
+use Rattle.vn_laws.proofs.growth.Parts.{Numbers, numbers, Less, Falls}
 
 -- whether the numbers of what lives pass the test
 abbrev pub live_counted : (Numbers → Bool) → Option Live → Bool
@@ -39,17 +39,17 @@ module _ {test : Numbers → Bool} where
   pub counted-shape : {v w : World} → Counted test v → SameShape v w → Counted test w
   counted-shape c t = record { of = λ q. ap (live_counted test) (t.lives q) ∙ c.of q }
 
-  -- the tables at a path change, but not their numbers
-  pub counted-on_parts : {v : World} → Counted test v → (p : Path) (f : PartsOf Half → PartsOf Half)
-      → ((parts : PartsOf Half) → numbers (f parts) ≡ numbers parts) → Counted test (edit_live p (on_parts f) v)
-  counted-on_parts {v} c p f same = record {
+  -- the tables at a path change, and their numbers are no more
+  pub counted-on_parts : Falls test → {v : World} → Counted test v → (p : Path) (f : PartsOf Half → PartsOf Half)
+      → ((parts : PartsOf Half) → Less (numbers (f parts)) (numbers parts)) → Counted test (edit_live p (on_parts f) v)
+  counted-on_parts falls {v} c p f less = record {
     of = λ q. ap (λ (s : Stack). live_counted test s.live) (stack_at-edit_live p (on_parts f) v q)
         ∙ by (path_eq q p) (stack_at v q) (c.of q);
   }
     where
       lives : (o : Option Live) → live_counted test o ≡ true → live_counted test (option_map (on_parts f) o) ≡ true
       lives None e = refl
-      lives (Some live) e = ap test (same live.parts) ∙ e
+      lives (Some live) e = falls (numbers live.parts) (numbers (f live.parts)) (less live.parts) e
 
       by : (b : Bool) (s : Stack) → live_counted test s.live ≡ true
           → live_counted test (if b then live_map (on_parts f) s else s).live ≡ true

@@ -1,5 +1,5 @@
 -- A jail begins with its numbers at 0, and a removal changes those of no other stack.
-use Rattle.std.proofs.Common.{◌≡◌, ℕ, Bool, true, false, List, [], ◌∷◌, None, refl, ap, ◌∙◌}
+use Rattle.std.proofs.Common.{◌≡◌, ℕ, Bool, true, false, List, [], ◌∷◌, None, refl, ap, ◌∙◌, arith}
 use Rattle.std.specs.Prelude.{if◌then◌else◌}
 use Rattle.std.specs.List.{list_any}
 use Rattle.vn_types.specs.declared.half.Half.{Half}
@@ -17,14 +17,14 @@ use Rattle.vn_cells.specs.commands.Removal.{lent_here, homed_at, sent_home, with
 use Rattle.vn_laws.proofs.edits.Shapes.{shape-edit_stack}
 use Rattle.vn_laws.proofs.growth.Edits.{Counted, live_counted, counted-on_parts, counted-shape}
 use Rattle.vn_laws.proofs.growth.Links.{counted-moved, counted-destroyed_pair}
-use Rattle.vn_laws.proofs.growth.Parts.{Numbers, numbers}
+use Rattle.vn_laws.proofs.growth.Parts.{Numbers, numbers, Less, less-refl, Falls}
 use Rattle.vn_laws.proofs.jails.Counted.{recounted}
 use Rattle.vn_laws.proofs.jails.Created.{more, fresh, created_stack}
 use Rattle.vn_laws.proofs.jails.Killed.{killed_stack}
 
--- a destructor that clears tables leaves their numbers
+-- a destructor that clears tables leaves no higher numbers
 abbrev LeavesNumbers : DownOf Half → Type 0
-LeavesNumbers (Clears f) = (p : PartsOf Half) → numbers (f p) ≡ numbers p
+LeavesNumbers (Clears f) = (p : PartsOf Half) → Less (numbers (f p)) (numbers p)
 LeavesNumbers SendsHome = Unit {0}
 LeavesNumbers DestroysHomed = Unit {0}
 
@@ -36,12 +36,15 @@ AllLeave (row ∷ more) = LeavesNumbers row.down × AllLeave more
 rows_leave : AllLeave rows
 unfolding without_entries without_pings
 rows_leave =
-    (λ p. refl, (λ p. refl, (tt, (λ p. refl, (λ p. refl, (λ p. refl, (λ p. refl, (λ p. refl, (λ p. refl, (λ p. refl, (tt, tt)))))))))))
+    (same, (same, (tt, (same, (λ p. record { timers = refl; drops = refl; held = omega arith }, (same, (same, (same, (same, (same, (tt, tt)))))))))))
+  where
+    same : (p : PartsOf Half) → Less (numbers p) (numbers p)
+    same p = less-refl (numbers p)
 
-module _ {test : Numbers → Bool} where
+module _ {test : Numbers → Bool} (falls : Falls test) where
   -- ---- a jail is made
 
-  pub counted-created : test (0, no_drops) ≡ true → {v : World} → Counted test v → (clock : ℕ) (p : Path) (limit : ℕ)
+  pub counted-created : test (0, (no_drops, 0)) ≡ true → {v : World} → Counted test v → (clock : ℕ) (p : Path) (limit : ℕ)
       → Counted test (created clock p limit v)
   counted-created none {v} c clock p limit = record {
     of = λ q. ap (λ (s : Stack). live_counted test s.live) (created_stack clock p limit v q) ∙ by q (path_eq q p);
@@ -57,16 +60,16 @@ module _ {test : Numbers → Bool} where
   counted-sent_home : (p : Path) (hs : List Half) {v : World} → Counted test v → Counted test (sent_home p hs v)
   unfolding sent_home
   counted-sent_home p [] c = c
-  counted-sent_home p (h ∷ hs) c = counted-sent_home p hs (counted-moved c h p h.home)
+  counted-sent_home p (h ∷ hs) c = counted-sent_home p hs (counted-moved falls c h p h.home)
 
   counted-without_pairs : (ks : List Key) {v : World} → Counted test v → Counted test (without_pairs ks v)
   unfolding without_pairs
   counted-without_pairs [] c = c
-  counted-without_pairs (k ∷ ks) c = counted-without_pairs ks (counted-destroyed_pair c k)
+  counted-without_pairs (k ∷ ks) c = counted-without_pairs ks (counted-destroyed_pair falls c k)
 
   counted-run_down : {v : World} → Counted test v → (p : Path) (d : DownOf Half) → LeavesNumbers d → Counted test (run_down p d v)
   unfolding run_down
-  counted-run_down c p (Clears f) leaves = counted-on_parts c p f leaves
+  counted-run_down c p (Clears f) leaves = counted-on_parts falls c p f leaves
   counted-run_down {v} c p SendsHome leaves = counted-sent_home p (lent_here v p) c
   counted-run_down {v} c p DestroysHomed leaves = counted-without_pairs (homed_at v p) c
 

@@ -10,14 +10,14 @@ use Rattle.vn_cells.specs.world.World.{pair_at}
 use Rattle.vn_cells.specs.commands.Pairs.{new_pair, attached, detached, attach, detach, made_pair, unmade, destroyed_pair, destroyed_by, with_mac_on, told_lowest}
 use Rattle.vn_cells.specs.commands.Moves.{moved, moved_on}
 use Rattle.vn_laws.proofs.growth.Edits.{Counted, counted-on_parts, counted-add_pair, counted-drop_pair, counted-each_pair}
-use Rattle.vn_laws.proofs.growth.Parts.{Numbers, attached-numbers, detached-numbers}
+use Rattle.vn_laws.proofs.growth.Parts.{Numbers, Falls, attached-less, detached-less}
 
-module _ {test : Numbers → Bool} where
+module _ {test : Numbers → Bool} (falls : Falls test) where
   counted-attach : {v : World} → Counted test v → (h : Half) (p : Path) → Counted test (attach h p v)
-  counted-attach c h p = counted-on_parts c p (attached h) (attached-numbers h)
+  counted-attach c h p = counted-on_parts falls c p (attached h) (attached-less h)
 
   counted-detach : {v : World} → Counted test v → (h : Half) (p : Path) → Counted test (detach h p v)
-  counted-detach c h p = counted-on_parts c p (detached h) (detached-numbers h)
+  counted-detach c h p = counted-on_parts falls c p (detached h) (detached-less h)
 
   pub counted-made_pair : {v : World} → Counted test v → (k : Key) → Counted test (made_pair k v)
   unfolding made_pair

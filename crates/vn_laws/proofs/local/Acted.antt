@@ -108,9 +108,10 @@ abbrev pub sound_scene : Option (SceneOf Half) → Bool
 sound_scene None = true
 sound_scene (Some s) = is_sound_scene half_eq s
 
-pub record KeepsTables (rule : LocalRule) : Type 0 where
-  pub tables : (common : Common) (p : Path) (here : Here) (event : Event) → sound_scene here.scene ≡ true
-      → sound_after here.scene (rule common p here event).scene ≡ true
+-- the rule leaves the tables of what it is handed sound
+abbrev pub KeepsTables : LocalRule → Common → Path → Here → Event → Type 0
+KeepsTables rule common p here event =
+    sound_scene here.scene ≡ true → sound_after here.scene (rule common p here event).scene ≡ true
 
 abbrev queues_in : List (LinkOf Half) → Bool
 queues_in links = list_all (λ (l : LinkOf Half). is_queue l.sent) links
@@ -130,7 +131,8 @@ link_queue h s all = found s.links all
         by true own ih = own
         by false own ih = ih
 
-module _ {rule : LocalRule} (keeps : KeepsTables rule) {w : World} (s : IsSound w) (p : Path) (event : Event) where
+-- the scene of a sound world's stack is sound
+module _ {w : World} (s : IsSound w) where
   end_queue : (side : Side) (o : Option Pair) → has_queues o ≡ true → (h : Half) → is_queue (link_by h (option_map (end_of side) o)).sent ≡ true
   end_queue side None e h = refl
   end_queue A (Some pair) e h = (and_parts _ _ e).0
@@ -146,6 +148,10 @@ module _ {rule : LocalRule} (keeps : KeepsTables rule) {w : World} (s : IsSound 
   given None e = refl
   given (Some live) e = and_from _ _ e (links_given (halves_of live.parts.interfaces))
 
+  pub scene-given : (p : Path) → sound_scene (here_at w p).scene ≡ true
+  scene-given p = given (stack_at w p).live (s.standing.tables p)
+
+module _ (rule : LocalRule) {w : World} (s : IsSound w) (p : Path) (event : Event) (keeps : KeepsTables rule (common_of w) p (here_at w p) event) where
   left : (t : SceneOf Half) (o : Option Live) → passes (is_sound_parts half_eq) o ≡ true
       → sound_after (option_map (λ (live : Live). scene_in w live.parts) o) (Some t) ≡ true
       → passes (is_sound_parts half_eq) (option_map (live_after t) o) ≡ true
@@ -157,7 +163,7 @@ module _ {rule : LocalRule} (keeps : KeepsTables rule) {w : World} (s : IsSound 
   kept : (t : SceneOf Half) → (rule (common_of w) p (here_at w p) event).scene ≡ Some t → sound_after (here_at w p).scene (Some t) ≡ true
   kept t e =
       subst (λ o. sound_after (here_at w p).scene o ≡ true) e
-      (keeps.tables (common_of w) p (here_at w p) event (given (stack_at w p).live (s.standing.tables p)))
+      (keeps (scene-given s p))
 
   tables-placed : (t : SceneOf Half) → (rule (common_of w) p (here_at w p) event).scene ≡ Some t
       → (q : Path) → passes (is_sound_parts half_eq) (stack_at (placed p (halves_at w p) t w) q).live ≡ true

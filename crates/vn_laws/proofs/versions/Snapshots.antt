@@ -19,9 +19,9 @@ use Rattle.vn_cells.specs.machine.Readers.{reader_of, line_or_end, open_rule, ne
 use Rattle.vn_cells.specs.machine.Snapshots.{is_next, is_close, GivesLine, IsSnapshot}
 use Rattle.vn_cells.specs.machine.Step.{acting, acted, opening, step, run, run_from}
 use Rattle.vn_laws.proofs.edits.Cells.{own_edit, stack_at-edit_stack}
-use Rattle.vn_laws.proofs.local.Events.{either_acted, stack-delivered}
+use Rattle.vn_laws.proofs.local.Events.{either_acted}
 use Rattle.vn_laws.proofs.versions.Lines.{reader, lines_after, open-keeps, open-made, next-keeps, close-keeps, next-outcome}
-use Rattle.vn_laws.proofs.versions.SameReaders.{SameReaders, readers-none, readers-commanded, readers-looped, readers-fired}
+use Rattle.vn_laws.proofs.versions.SameReaders.{SameReaders, readers-none, readers-commanded, readers-delivered, readers-looped, readers-fired}
 
 -- the lane's reader at a path has these lines
 abbrev IsAt : World → ℕ → Path → List (List ℕ) → Type 0
@@ -109,7 +109,7 @@ module _ (lane : ℕ) (p : Path) where
   unfolding step acting acted is_next is_close
   at-step w (event.Tick n) lines at none = at-same (later-readers n w) lines at
   at-step w (event.Cmd own q command) lines at none = at-same (readers-commanded own q command w) lines at
-  at-step w (event.Deliver h) lines at none = at-same (record { of = λ q. ap (λ (s : Stack). s.readers) (stack-delivered h w q) }) lines at
+  at-step w (event.Deliver h) lines at none = at-same (readers-delivered h w) lines at
   at-step w (event.LoopDeliver q) lines at none =
       at-same (either_acted (SameReaders w) (acting w (event.LoopDeliver q)) (event.LoopDeliver q) w (readers-none w) (λ r. readers-looped r q w)) lines at
   at-step w (event.Fire q) lines at none =
