@@ -55,12 +55,12 @@ module _ {N : Type 0} where
   abbrev pub after_add : AddrOf N → List (AddrOf N) → List (AddrOf N)
   after_add a addresses = addresses ++ a ∷ []
 
-  -- whether it is the broadcast address of an address of a half
+  -- whether it is the directed broadcast address of the network of an address of a half
   abbrev pub is_broadcast_of : Ip4 → AddrOf N → Bool
   is_broadcast_of ip a =
       is_half a.on && has_broadcast a && ((directed_broadcast a.ip a.len).0 == ip.0)
 
-  -- whether it is the broadcast address of one of the stack's
+  -- whether it is the directed broadcast address of a network that the stack has an address of
   abbrev pub broadcast : Ip4 → List (AddrOf N) → Bool
   broadcast ip addresses = list_any (is_broadcast_of ip) addresses
 

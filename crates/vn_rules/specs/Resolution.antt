@@ -90,7 +90,8 @@ module _ {N : Type 0} (same : N → N → Bool) where
 
   -- ---- a packet tells the sender's hardware address
 
-  -- whether the sender's entry takes it: a static one stays
+  -- whether the sender's entry is overwritten by it: a static one stays, though the packet counts as merged
+  -- with it, so that `adds' adds none
   abbrev pub merges : N → Ip4 → List (ArpEntryOf N) → Bool
   merges half ip entries =
       option_map_or (λ (e : ArpEntryOf N). not (is_static e.state)) (entry_of same half ip entries) false
@@ -136,7 +137,7 @@ module _ {N : Type 0} (same : N → N → Bool) where
       option_map_or (λ half. after_static half ip mac p) (gateway_half ip p.routes) p
 
 module _ {N : Type 0} where
-  -- why it is not: the address is the stack's, or lies beyond no half
+  -- why it is not: no station has the hardware address, the address is the stack's, or it lies beyond no half
   unfoldable pub static_refusals : Ip4 → Mac → PartsOf N → List (Bool × Errno)
   static_refusals ip mac p =
       (is_no_station mac, errno.Inval)

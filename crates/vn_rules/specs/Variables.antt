@@ -84,7 +84,8 @@ set_refusals name value declared =
 abbrev pub number_in : List ℕ → List Variable → ℕ
 number_in name variables = unwrap_or (value_of name variables) 0
 
--- whether datagrams for others are forwarded (RFC 1812, section 2.2.8.1: not, unless it is asked for)
+-- whether datagrams for others are forwarded: not, unless it is asked for (RFC 1122, section 3.1: a host
+-- with embedded gateway code has a switch for it, which is off at first)
 abbrev pub is_forwarding : List Variable → Bool
 is_forwarding variables = number_in (codes "net.inet.ip.forwarding") variables == 1
 
