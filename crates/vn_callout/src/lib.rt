@@ -8,6 +8,3 @@ mod wheel;
 pub use calls::{Call, Reply, replies};
 pub use vn_rules::Timer;
 pub use wheel::Wheel;
-
-#[cfg(test)]
-mod tests;

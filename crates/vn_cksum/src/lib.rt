@@ -4,8 +4,6 @@
 
 mod laws;
 mod sum;
-#[cfg(test)]
-mod tests;
 
 pub use laws::{
     law_of_carries, law_of_complement, law_of_order, law_of_pieces, law_of_replacement, law_of_zero,

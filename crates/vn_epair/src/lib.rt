@@ -9,6 +9,3 @@ mod pairs;
 pub use half_row::FRAMES_MAX;
 pub use pair_row::UNIT_MAX;
 pub use pairs::Pairs;
-
-#[cfg(test)]
-mod tests;

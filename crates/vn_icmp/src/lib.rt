@@ -11,6 +11,3 @@ mod which;
 pub use pings::Pings;
 pub use suppression::may_answer;
 pub use vn_rules::Ping;
-
-#[cfg(test)]
-mod tests;

@@ -11,6 +11,3 @@ pub use laws::law_of_refusal;
 pub use message::{IcmpBad, IcmpView};
 pub use quote::{Quote, read_quote};
 pub use write::{write_echo, write_error};
-
-#[cfg(test)]
-mod tests;

@@ -7,6 +7,3 @@ mod interfaces;
 
 pub use if_table::IfTable;
 pub use interfaces::Attached;
-
-#[cfg(test)]
-mod tests;

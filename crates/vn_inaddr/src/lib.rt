@@ -6,6 +6,3 @@ mod addrs;
 
 pub use addrs::Addrs;
 pub use vn_rules::Addr;
-
-#[cfg(test)]
-mod tests;

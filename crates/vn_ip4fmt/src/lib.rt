@@ -7,8 +7,6 @@ mod checksum;
 mod head;
 mod laws;
 mod place;
-#[cfg(test)]
-mod tests;
 mod ttl;
 mod view;
 mod write;

@@ -7,6 +7,3 @@ mod jails;
 mod order;
 
 pub use jails::Jails;
-
-#[cfg(test)]
-mod tests;

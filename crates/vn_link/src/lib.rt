@@ -9,6 +9,3 @@ mod mac;
 pub use arp::{ArpBad, ArpPacket};
 pub use ethernet::{EthBad, EthView, write_eth};
 pub use laws::{law_of_headers, law_of_refusal};
-
-#[cfg(test)]
-mod tests;

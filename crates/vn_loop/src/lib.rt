@@ -7,6 +7,3 @@ mod loops;
 mod queue;
 
 pub use loops::Loops;
-
-#[cfg(test)]
-mod tests;

@@ -4,6 +4,3 @@
 mod ring;
 
 pub use ring::FrameRing;
-
-#[cfg(test)]
-mod tests;

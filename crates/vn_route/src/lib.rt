@@ -13,6 +13,3 @@ mod wanted;
 pub use route::Route;
 pub use routes::Routes;
 pub use vn_rules::Target;
-
-#[cfg(test)]
-mod tests;

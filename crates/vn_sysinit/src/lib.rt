@@ -9,6 +9,3 @@ mod table;
 pub use entry::SysEntry;
 pub use laws::law_of_constructor_rows;
 pub use table::{RegisterFault, SysTable};
-
-#[cfg(test)]
-mod tests;

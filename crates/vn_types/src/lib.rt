@@ -21,8 +21,6 @@ mod octets;
 mod path;
 mod path_text;
 mod per_stack;
-#[cfg(test)]
-mod tests;
 mod text;
 mod words;
 

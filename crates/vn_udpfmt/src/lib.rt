@@ -4,8 +4,6 @@
 mod bad;
 mod laws;
 mod pseudo;
-#[cfg(test)]
-mod tests;
 mod view;
 mod write;
 

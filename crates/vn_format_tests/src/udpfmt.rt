@@ -1,6 +1,6 @@
-use super::*;
 use std::test::Fail;
 use vn_types::Ip4;
+use vn_udpfmt::{UdpBad, UdpView, law_of_headers, law_of_refusal, write_udp};
 
 const A: Ip4 = Ip4(0x0a00_0001);
 

@@ -1,6 +1,6 @@
-use super::*;
 use std::alloc::Global;
 use std::test::Fail;
+use vn_route::{Route, Routes, Target};
 use vn_rules::lies_in;
 use vn_types::{Errno, HalfId, If, Ip4, Prefix, Sid, Side};
 

@@ -1,5 +1,8 @@
-use super::*;
 use std::test::Fail;
+use vn_cksum::{
+    law_of_carries, law_of_complement, law_of_order, law_of_pieces, law_of_replacement,
+    law_of_zero, sum16, sum16_parts,
+};
 
 #[test]
 fn sums(rt: HostRuntime) -> Result<(), Fail> {

@@ -1,5 +1,5 @@
-use super::*;
 use std::test::Fail;
+use vn_inaddr::{Addr, Addrs};
 use vn_types::{Errno, HalfId, If, Ip4, Sid, Side};
 
 const NEAR: If = If::Half(HalfId {

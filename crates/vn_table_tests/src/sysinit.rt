@@ -1,5 +1,5 @@
-use super::*;
 use std::test::Fail;
+use vn_sysinit::{RegisterFault, SysEntry, SysTable, law_of_constructor_rows};
 use vn_types::Name;
 
 const UP: [&str; 11] = [

@@ -1,5 +1,5 @@
-use super::*;
 use std::test::Fail;
+use vn_link::{ArpBad, ArpPacket, EthView, law_of_headers, law_of_refusal, write_eth};
 use vn_types::{Ip4, Mac};
 
 // The first frame of a ping from 10.0.0.1 to 10.0.0.2: an ARP request.

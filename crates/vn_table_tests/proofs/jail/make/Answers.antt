@@ -1,7 +1,7 @@
 use Rattle.std.proofs.Common.{◌<◌, length, ap, arith, rules}
 use Rattle.std.proofs.lemmas.Bool.{false_from_ne_true}
 use Rattle.vn_types.proofs.Ancestors.{is_host-is}
-use Rattle.vn_jail.proofs.tests.make.Goals as goal
+use Rattle.vn_table_tests.proofs.jail.make.Goals as goal
 
 pub create-requires-clause-label : goal.create-requires-clause-label
 create-requires-clause-label c =

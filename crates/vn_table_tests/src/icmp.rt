@@ -1,8 +1,8 @@
 ghost use Rattle.std.specs.Prelude.{◌≡◌};
 
-use super::*;
 use std::test::Fail;
 use vn_callout::Wheel;
+use vn_icmp::{Ping, Pings, may_answer};
 use vn_ip4fmt::Ip4View;
 use vn_types::{HalfId, If, Ip4, Sid, Side};
 

@@ -1,6 +1,6 @@
-use super::*;
 use bytes::Bytes;
 use std::test::Fail;
+use vn_ring::FrameRing;
 
 #[test]
 fn frames_keep_their_order(rt: HostRuntime) -> Result<(), Fail> {

@@ -1,5 +1,5 @@
-use super::*;
 use std::test::Fail;
+use vn_ip4fmt::{Ip4Head, Ip4View, IpBad, decrement, law_of_headers, law_of_refusal, write_header};
 use vn_types::Ip4;
 
 const A: Ip4 = Ip4(0x0a00_0001);

@@ -2,9 +2,9 @@ ghost use Rattle.std.specs.Prelude.{IsSome};
 ghost use Rattle.vn_types.specs.PerStack.{ChangesOnly};
 ghost use Rattle.vn_loop.specs.Queues.{of};
 
-use super::*;
 use bytes::Bytes;
 use std::test::Fail;
+use vn_loop::Loops;
 use vn_types::{Errno, Sid};
 
 /// Puts a datagram into a queue so many times, and tells how often it was queued.

@@ -1,7 +1,7 @@
 use Rattle.std.proofs.Common.{IsSome, ◌≤◌}
 use Rattle.vn_types.specs.PerStack.{ChangesOnly}
 use Rattle.vn_loop.specs.Queues.{of}
-use Rattle.vn_loop.proofs.tests.fill.Given as goal
+use Rattle.vn_table_tests.proofs.loopback.fill.Given as goal
 
 abbrev pub invariant-loop-turn : goal.invariant-loop-turn
 invariant-loop-turn l = record {

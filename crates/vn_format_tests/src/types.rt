@@ -1,6 +1,10 @@
-use super::*;
 use std::alloc::Global;
 use std::cmp::Ordering;
+use vn_types::{
+    Errno, Mac, Name, NoMemory, Path, SockName, cut, join, put, put_number, read_half, read_ifname,
+    read_ip4, read_mac, read_number, read_path, read_prefix, write_half, write_ifname, write_ip4,
+    write_mac, write_path, write_prefix,
+};
 
 // Each kind of word, a text, and what it is written as again: `-`, where it is refused. The addresses are the first
 // and the last of each class of RFC 791, section 3.2.

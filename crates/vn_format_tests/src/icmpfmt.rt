@@ -1,5 +1,5 @@
-use super::*;
 use std::test::Fail;
+use vn_icmpfmt::{IcmpBad, IcmpView, Quote, law_of_refusal, read_quote, write_echo, write_error};
 use vn_types::Ip4;
 
 // An echo request as another system's ping sends it, with identifier 1 and sequence number 1.

@@ -1,7 +1,7 @@
 ghost use Rattle.std.specs.Prelude.{◌+◌, ◌<◌, ◌≤◌, length};
 
-use super::*;
 use std::test::Fail;
+use vn_jail::Jails;
 use vn_types::{Errno, Path, Sid, read_path};
 
 fn path(rt: &HostRuntime, text: &str) -> Result<Path, Fail> {

@@ -1,5 +1,5 @@
-use super::*;
 use std::test::Fail;
+use vn_callout::{Call, Reply, Timer, replies};
 use vn_types::{HalfId, Ip4, Sid, Side};
 
 const NEAR: HalfId = HalfId {

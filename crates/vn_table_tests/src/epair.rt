@@ -1,9 +1,9 @@
 ghost use Rattle.std.specs.Prelude.{IsSome, false};
 ghost use Rattle.vn_epair.specs.Pairs.{of};
 
-use super::*;
 use bytes::Bytes;
 use std::test::Fail;
+use vn_epair::Pairs;
 use vn_types::{Errno, HalfId, IfName, Mac, Sid, Side, Standing};
 
 /// Stacks in which nothing stands.

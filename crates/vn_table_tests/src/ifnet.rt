@@ -1,8 +1,8 @@
 ghost use Rattle.std.specs.Prelude.{◌≡◌, None, OnOk, true};
 ghost use Rattle.vn_ifnet.specs.Stacks.{named, of};
 
-use super::*;
 use std::test::Fail;
+use vn_ifnet::IfTable;
 use vn_types::{HalfId, If, IfName, Sid, Side, Standing};
 
 fn half(pair: u32, side: Side) -> HalfId {
