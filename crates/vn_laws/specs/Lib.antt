@@ -7,3 +7,4 @@ pub mod WorkedReaders
 pub mod PairSets
 pub mod Versions
 pub mod Growth
+pub mod Sleep

@@ -19,5 +19,7 @@ pub use removal::{law_of_lowest_unit, law_of_removal};
 pub use rows::{
     law_of_closed_rows, law_of_worked_pairs, law_of_worked_readers, law_of_worked_rows,
 };
-pub use runs::{law_of_falling_weight, law_of_growth, law_of_schedules, law_of_settling};
+pub use runs::{
+    law_of_falling_weight, law_of_growth, law_of_schedules, law_of_settling, law_of_sleep,
+};
 pub use soundness::{law_of_clean_histories, law_of_sound_steps};

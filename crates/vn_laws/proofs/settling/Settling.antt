@@ -88,11 +88,9 @@ module _ (w : World) (sound : IsSound w) where
           ap (λ r. has_datagram (unwrap_or (lookup (is_at (path_cmp r)) w.stacks) no_stack).live) (sym (some_same q p is))
           ∙ ap (λ o. has_datagram (unwrap_or o no_stack).live) at ∙ find_passes (λ (s : Path × Stack). has_datagram s.1.live) w.stacks (q, s) found
 
-  looped-step : (p : Path) → first_looped w ≡ Some p → weight (step w (event.LoopDeliver p)) + 1 ≤ weight w
+  pub looped-step : (p : Path) → has_datagram (stack_at w p).live ≡ true → weight (step w (event.LoopDeliver p)) + 1 ≤ weight w
   unfolding step acting acted
-  looped-step p is =
-      let any = first-looped p is in
-      subst (λ b. weight (acted (where_true b p) (event.LoopDeliver p) w) + 1 ≤ weight w) (sym any) (loop-lighter p any)
+  looped-step p any = subst (λ b. weight (acted (where_true b p) (event.LoopDeliver p) w) + 1 ≤ weight w) (sym any) (loop-lighter p any)
 
   -- ---- a frame
 
@@ -136,6 +134,19 @@ module _ (w : World) (sound : IsSound w) where
           subst (λ fs. weight (received (arrival_at (end_of h.side pair).at fs) h w) + 1 ≤ weight w) (sym waits)
           (frame-lighter w sound.standing sound.tree.stacks_ordered h pair frame more found waits (end_of h.side pair).at live here)
 
+  -- whichever half it comes to
+  pub arrival-step : (h : Half) → is_some (arrival h (pair_at w (key_of h))) ≡ true → weight (step w (event.Deliver h)) + 1 ≤ weight w
+  unfolding pair_at entries.find
+  arrival-step h comes = by (lookup (is_at (key_cmp (key_of h))) w.pairs) refl comes
+    where
+      waits : (at : Path) (frames : List (List ℕ)) → is_some (arrival_at at frames) ≡ true → has_any frames ≡ true
+      waits at [] comes = absurd (false≢true comes)
+      waits at (frame ∷ more) comes = refl
+
+      by : (o : Option Pair) → lookup (is_at (key_cmp (key_of h))) w.pairs ≡ o → is_some (arrival h o) ≡ true → weight (step w (event.Deliver h)) + 1 ≤ weight w
+      by None found comes = absurd (false≢true comes)
+      by (Some pair) found comes = frame-comes h pair found (waits (end_of h.side pair).at (frames_to h.side pair) comes)
+
   frame-step : (h : Half) → first_reached w.pairs ≡ Some h → weight (step w (event.Deliver h)) + 1 ≤ weight w
   frame-step h is =
       let first = reached-first h w.pairs is in
@@ -155,7 +166,7 @@ module _ (w : World) (sound : IsSound w) where
 
       by : (o : Option Path) → first_looped w ≡ o → (elim o as (λ _. Option Event) [ Some p ↦ Some (event.LoopDeliver p) | None ↦ option_map event.Deliver (first_reached w.pairs) ]) ≡ Some e → weight (step w e) + 1 ≤ weight w
       by None looped is = frame (first_reached w.pairs) refl is
-      by (Some p) looped is = subst (λ d. weight (step w d) + 1 ≤ weight w) (some_same (event.LoopDeliver p) e is) (looped-step p looped)
+      by (Some p) looped is = subst (λ d. weight (step w d) + 1 ≤ weight w) (some_same (event.LoopDeliver p) e is) (looped-step p (first-looped p looped))
 
 -- ---- settling
 

@@ -157,7 +157,7 @@ module _ (lane : ℕ) (p : Path) where
       ap (λ (s : Stack). s.entries) (own_edit p _ w)
       ∙ ap (λ o. (stack_at w p).entries ++ entry_of w.clock (what.Next lane o) ∷ []) (next-outcome lane (stack_at w p).readers lines at)
 
-run-append : (w : World) (before after : List Event) → run_from w (before ++ after) ≡ run_from (run_from w before) after
+pub run-append : (w : World) (before after : List Event) → run_from w (before ++ after) ≡ run_from (run_from w before) after
 unfolding run_from
 run-append w [] after = refl
 run-append w (e ∷ before) after = run-append (step w e) before after
