@@ -238,7 +238,7 @@ pub goes-far : (common : Common) (issuer : Path) (r : Reach) (v : World) → Goe
 unfolding far_rule
 goes-far common issuer Near v = goes-none v
 goes-far common issuer (MakesJail p limit) v =
-    record { clock = created_clock common.clock p limit v; told = created_told common.clock p limit v; readers = created_readers common.clock p limit v }
+    record { clock = created_clock common.clock p limit v; told = created_told common.clock p limit v; readers = record { of = created_readers common.clock p limit v } }
 goes-far common issuer (RemovesJail p) v = goes-removed common.clock p v
 goes-far common issuer (MakesPair None) v = goes-lowest v issuer (lowest_free v issuer)
 goes-far common issuer (MakesPair (Some unit)) v = goes-made_pair v (issuer, unit)

@@ -25,34 +25,26 @@ use Rattle.vn_laws.specs.Versions.{is_command}
 use Rattle.vn_laws.proofs.RowTexts.{unread_text, unread_is}
 use Rattle.vn_laws.specs.WorkedRows.{two_pairs, taken, lent, removes, two_pairs_text, taken_text, removed_text, ifs_lent, ifs_home}
 
-two_pairs_unread : unread_text two_pairs ≡ two_pairs_text
+-- by computation
+computed : (unread_text two_pairs ≡ two_pairs_text) × (unread_text taken ≡ taken_text) × (unread_text (lent ++ removes ∷ []) ≡ removed_text)
+    × (ifs_of (stack_at (run lent) []) ≡ ifs_lent) × (ifs_of (stack_at (run (lent ++ removes ∷ [])) []) ≡ ifs_home)
 unfolding unread_text sections_text section_text what_text outcome_text command_text history_text event_text path_text digits unit_side_text ifname_text run_from step commanded ran_by reach far_rule answer_by any_full created edit_stack each_stack stack_at pair_at add_pair drop_pair each_pair find put each path_cmp path_eq key_cmp key_eq half_eq joined above is_under interface_named is_reserved is_taken is_unit_free first_unit lowest_free told_lowest made_pair unmade moved moved_on purged without_addr without_names without_entries without_pings without_grams_by sent_home without_pairs run_down torn_down killed destroyed_all
-two_pairs_unread = refl
+computed = (refl, refl, refl, refl, refl)
 
 pub two_pairs_is : text two_pairs ≡ two_pairs_text
 unfolding is_command
-two_pairs_is = unread_is two_pairs refl ∙ two_pairs_unread
-
-taken_unread : unread_text taken ≡ taken_text
-unfolding unread_text sections_text section_text what_text outcome_text command_text history_text event_text path_text digits unit_side_text ifname_text run_from step commanded ran_by reach far_rule answer_by any_full created edit_stack each_stack stack_at pair_at add_pair drop_pair each_pair find put each path_cmp path_eq key_cmp key_eq half_eq joined above is_under interface_named is_reserved is_taken is_unit_free first_unit lowest_free told_lowest made_pair unmade moved moved_on purged without_addr without_names without_entries without_pings without_grams_by sent_home without_pairs run_down torn_down killed destroyed_all
-taken_unread = refl
+two_pairs_is = unread_is two_pairs refl ∙ computed.0
 
 pub taken_is : text taken ≡ taken_text
 unfolding is_command
-taken_is = unread_is taken refl ∙ taken_unread
-
-removed_unread : unread_text (lent ++ removes ∷ []) ≡ removed_text
-unfolding unread_text sections_text section_text what_text outcome_text command_text history_text event_text path_text digits unit_side_text ifname_text run_from step commanded ran_by reach far_rule answer_by any_full created edit_stack each_stack stack_at pair_at add_pair drop_pair each_pair find put each path_cmp path_eq key_cmp key_eq half_eq joined above is_under interface_named is_reserved is_taken is_unit_free first_unit lowest_free told_lowest made_pair unmade moved moved_on purged without_addr without_names without_entries without_pings without_grams_by sent_home without_pairs run_down torn_down killed destroyed_all
-removed_unread = refl
+taken_is = unread_is taken refl ∙ computed.1
 
 pub removed_is : text (lent ++ removes ∷ []) ≡ removed_text
 unfolding is_command
-removed_is = unread_is (lent ++ removes ∷ []) refl ∙ removed_unread
+removed_is = unread_is (lent ++ removes ∷ []) refl ∙ computed.2
 
 pub lent_is : ifs_of (stack_at (run lent) []) ≡ ifs_lent
-unfolding run_from step commanded ran_by reach far_rule answer_by any_full created edit_stack each_stack stack_at pair_at add_pair drop_pair each_pair find put each path_cmp path_eq key_cmp key_eq half_eq joined above is_under interface_named is_reserved is_taken is_unit_free first_unit lowest_free told_lowest made_pair unmade moved moved_on purged without_addr without_names without_entries without_pings without_grams_by sent_home without_pairs run_down torn_down killed destroyed_all
-lent_is = refl
+lent_is = computed.3
 
 pub home_is : ifs_of (stack_at (run (lent ++ removes ∷ [])) []) ≡ ifs_home
-unfolding run_from step commanded ran_by reach far_rule answer_by any_full created edit_stack each_stack stack_at pair_at add_pair drop_pair each_pair find put each path_cmp path_eq key_cmp key_eq half_eq joined above is_under interface_named is_reserved is_taken is_unit_free first_unit lowest_free told_lowest made_pair unmade moved moved_on purged without_addr without_names without_entries without_pings without_grams_by sent_home without_pairs run_down torn_down killed destroyed_all
-home_is = refl
+home_is = computed.4

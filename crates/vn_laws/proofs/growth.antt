@@ -1,4 +1,5 @@
 -- What a run of so many events comes to at most.
+pub mod Numbers
 pub mod Parts
 pub mod Edits
 pub mod Links

@@ -190,10 +190,11 @@ removed_text =
     ++ codes "cmd 1 host ifconfig epair1 create\ncmd 1 host ifconfig epair0a vnet a\n"
     ++ codes "cmd 1 host ifconfig epair1b vnet a\ncmd 1 host jail -r a\n== end\n"
 
--- the interfaces of host while the halves are lent, and once they are home
+-- the interfaces of host while the halves are lent
 abbrev pub ifs_lent : List If
 ifs_lent = Lo0 ∷ OfHalf (half_on B ([], 0)) ∷ OfHalf (half_on A ([], 1)) ∷ []
 
+-- the same once they are home
 abbrev pub ifs_home : List If
 ifs_home = ifs_lent ++ OfHalf (half_on A ([], 0)) ∷ OfHalf (half_on B ([], 1)) ∷ []
 

@@ -3,18 +3,18 @@ use Rattle.std.proofs.Common.{◌≡◌, ℕ, ◌+◌, ◌≤◌, Bool, true, fa
 use Rattle.std.specs.Bool.{Decides}
 use Rattle.std.specs.List.{list_any}
 use Rattle.std.proofs.lemmas.Bool.{and_parts, and_from, not-true, eqb-true, eq-eqb}
-use Rattle.std.proofs.lemmas.List.Sums.{sum_by-cons}
 use Rattle.vn_rules.specs.declared.arp.ArpEntryOf.{ArpEntryOf}
 use Rattle.vn_rules.specs.declared.parts.PartsOf.{PartsOf}
 use Rattle.vn_rules.specs.Arp.{is_entry_at}
 use Rattle.vn_rules.specs.Orders.{are_distinct}
 use Rattle.vn_rules.specs.Scenes.{LinkOf, SceneOf}
-use Rattle.vn_rules.specs.Soundness.{is_same_entry, has_distinct_entries, times_arp, is_sound_parts}
+use Rattle.vn_rules.specs.Soundness.{is_same_entry, has_distinct_entries, is_sound_parts}
 use Rattle.vn_rules.proofs.Kept.{all_from_none}
 use Rattle.vn_rules.proofs.ListTests.{none_weaker}
-use Rattle.vn_rules.proofs.SoundFacts.{facts_from_sound}
 use Rattle.vn_rules.proofs.TimerEdits.{zero_from_all}
 use Rattle.vn_packets.specs.Weighing.{HasOneLink, HasOneEntry}
+use Rattle.vn_packets.proofs.Counting.{count-cons}
+use Rattle.vn_packets.proofs.SceneSound.{sound_facts}
 
 module _ {A : Type 0} (alike : A → A → Bool) (t : A → Bool) (one : (x y : A) → t x ≡ true → t y ≡ true → alike x y ≡ true) where
   -- where no two are alike, one passes a test that all pass alike, or none
@@ -22,9 +22,8 @@ module _ {A : Type 0} (alike : A → A → Bool) (t : A → Bool) (one : (x y : 
   at_most_one [] apart = omega arith
   at_most_one (x ∷ xs) apart =
       let parts = and_parts (not (list_any (alike x) xs)) (are_distinct alike xs) apart in
-      let whole : count_by t (x ∷ xs) ≡ cond {A = ℕ} (t x) 1 0 + count_by t xs = sum_by-cons (λ y. cond (t y) 1 0) x xs in
       let most = by (t x) refl (not-true _ parts.0) (at_most_one xs parts.1) in
-      omega (arith, whole, most)
+      omega (arith, count-cons t x xs, most)
     where
       by : (b : Bool) → t x ≡ b → list_any (alike x) xs ≡ false → count_by t xs ≤ 1 → cond {A = ℕ} b 1 0 + count_by t xs ≤ 1
       by true is none more =
@@ -35,7 +34,7 @@ module _ {A : Type 0} (alike : A → A → Bool) (t : A → Bool) (one : (x y : 
 module _ {N : Type 0} (same : N → N → Bool) (decides : (a b : N) → Decides (same a b) (a ≡ b)) where
   pub one-entry : (p : PartsOf N) → is_sound_parts same p ≡ true → HasOneEntry same p
   unfolding has_distinct_entries
-  one-entry p sound h ip = at_most_one (is_same_entry same) (is_entry_at same h ip) alike p.arp (facts_from_sound same (times_arp same) p sound).entries_apart
+  one-entry p sound h ip = at_most_one (is_same_entry same) (is_entry_at same h ip) alike p.arp (sound_facts same p sound).entries_apart
     where
       alike : (a b : ArpEntryOf N) → is_entry_at same h ip a ≡ true → is_entry_at same h ip b ≡ true → is_same_entry same a b ≡ true
       alike a b at bt =

@@ -13,10 +13,10 @@ use Rattle.vn_rules.proofs.ArpLaws.{held_for-renamed}
 use Rattle.vn_rules.proofs.ResolutionLaws.{after_arp_set-renamed, static_refusals-renamed}
 use Rattle.vn_rules.proofs.RouteLaws.{gateway_half-renamed}
 use Rattle.vn_packets.specs.ArpCommands.{released_on, arp_set_rule}
-use Rattle.vn_packets.specs.ArpPackets.{released}
+use Rattle.vn_packets.specs.ArpPackets.{sent_datagrams}
 use Rattle.vn_packets.specs.Drops.{on_parts}
 use Rattle.vn_packets.specs.Renamed.{as_rule}
-use Rattle.vn_packets.proofs.ArpPacketLaws.{released-scene-renamed}
+use Rattle.vn_packets.proofs.ArpPacketLaws.{sent_datagrams-renamed}
 use Rattle.vn_packets.proofs.DropLaws.{on_parts-renamed}
 
 module _ {N M : Type 0} (r : N → M) (at_n : N → N → Bool) (at_m : M → M → Bool) (faithful : (a b : N) → at_m (r a) (r b) ≡ at_n a b) where
@@ -28,8 +28,8 @@ module _ {N M : Type 0} (r : N → M) (at_n : N → N → Bool) (at_m : M → M 
       → released_on at_m (option_map r o) ip mac (renamed_scene r before) (renamed_scene r s) ≡ renamed_scene r (released_on at_n o ip mac before s)
   released_on-renamed None ip mac before s = refl
   released_on-renamed (Some half) ip mac before s =
-      ap (λ held. released at_m (r half) mac held (renamed_scene r s)) (held-so half ip before)
-      ∙ released-scene-renamed r at_n at_m faithful half mac (held_for at_n half ip before.parts.arp) s
+      ap (λ held. sent_datagrams at_m (r half) mac held (renamed_scene r s)) (held-so half ip before)
+      ∙ sent_datagrams-renamed r at_n at_m faithful half mac (held_for at_n half ip before.parts.arp) s
 
   half-so : (ip : Ip4) (s : SceneOf N) → gateway_half ip (renamed_scene r s).parts.routes ≡ option_map r (gateway_half ip s.parts.routes)
   unfolding renamed_scene renamed

@@ -12,7 +12,7 @@ use Rattle.vn_rules.specs.Scenes.{SceneOf, is_sound_scene}
 use Rattle.vn_rules.proofs.ArpRemoved.{after_arp_set-sound}
 use Rattle.vn_packets.specs.ArpCommands.{released_on, arp_set_rule}
 use Rattle.vn_packets.specs.Drops.{on_parts}
-use Rattle.vn_packets.proofs.ArpPacketSound.{released-keeps}
+use Rattle.vn_packets.proofs.ArpPacketSound.{sent_datagrams-keeps}
 use Rattle.vn_packets.proofs.SceneSound.{Keeps, keeps-refl, keeps-then, parts-sound, on_parts-keeps}
 
 module _ {N : Type 0} (same : N → N → Bool) (decides : (a b : N) → Decides (same a b) (a ≡ b)) where
@@ -26,7 +26,7 @@ module _ {N : Type 0} (same : N → N → Bool) (decides : (a b : N) → Decides
 
   released_on-keeps : (o : Option N) (ip : Ip4) (mac : Mac) (before s : SceneOf N) → is_sound_scene same s ≡ true → Keeps same s (released_on same o ip mac before s)
   released_on-keeps None ip mac before s sound = keeps-refl same s sound
-  released_on-keeps (Some half) ip mac before s sound = released-keeps same half mac (held_for same half ip before.parts.arp) s sound
+  released_on-keeps (Some half) ip mac before s sound = sent_datagrams-keeps same half mac (held_for same half ip before.parts.arp) s sound
 
   pub arp_set_rule-keeps : (ip : Ip4) (mac : Mac) (s : SceneOf N) → is_sound_scene same s ≡ true → Keeps same s (arp_set_rule same ip mac s).otherwise.left
   unfolding arp_set_rule

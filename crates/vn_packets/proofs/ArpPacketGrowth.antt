@@ -20,7 +20,7 @@ use Rattle.vn_link.specs.declared.arp.ArpBad.{ArpBad}
 use Rattle.vn_link.specs.declared.arp.ArpPacket.{ArpPacket}
 use Rattle.vn_link.specs.Packets.{arp_of}
 use Rattle.vn_packets.specs.declared.tally.Tally.TheVariants as tally
-use Rattle.vn_packets.specs.ArpPackets.{request_op, request, gratuitous, reply, arp_frame, mac_of, sent_arp, asking_source, requested, announced, sent_datagram, released, requested_if, waits, held, carried_by, carried, is_stranger, replied_if, is_target, waiting, learnt, arp_heard, arp_read, arp_received, turn_told, arp_turned}
+use Rattle.vn_packets.specs.ArpPackets.{request_op, request, gratuitous, reply, arp_frame, mac_of, sent_arp, asking_source, requested, announced, sent_datagram, sent_datagrams, requested_if, waits, held, carried_by, carried, is_stranger, replied_if, is_target, waiting, learnt, arp_heard, arp_read, arp_received, turn_told, arp_turned}
 use Rattle.vn_packets.specs.Datagrams.{ip4_type, broadcast_mac, frame_with}
 use Rattle.vn_packets.specs.Drops.{on_parts, lost, lost_if}
 use Rattle.vn_packets.specs.Growth.{Grows}
@@ -41,15 +41,13 @@ module _ {N : Type 0} (same : N → N → Bool) where
   unfolding sent_datagram
   sent_datagram-grows h to datagram s = sent-grows same h (frame_with to (mac_of same h s) ip4_type datagram) s
 
-  pub released-grows : (h : N) (to : Mac) (datagrams : List (List ℕ)) (s : SceneOf N) → Grows (length datagrams) 0 s.parts (released same h to datagrams s).parts
-  unfolding released
-  released-grows h to [] s = grows-refl s.parts
-  released-grows h to (datagram ∷ more) s =
-      grows-more s.parts (released same h to more next).parts (omega arith) (omega arith)
-      (grows-then s.parts next.parts (released same h to more next).parts (sent_datagram-grows h to datagram s) (released-grows h to more next))
-    where
-      next : SceneOf N
-      next = sent_datagram same h to datagram s
+  pub sent_datagrams-grows : (h : N) (to : Mac) (datagrams : List (List ℕ)) (s : SceneOf N) → Grows (length datagrams) 0 s.parts (sent_datagrams same h to datagrams s).parts
+  unfolding sent_datagrams
+  sent_datagrams-grows h to [] s = grows-refl s.parts
+  sent_datagrams-grows h to (datagram ∷ more) s =
+      let next = sent_datagram same h to datagram s in
+      grows-more s.parts (sent_datagrams same h to more next).parts (omega arith) (omega arith)
+      (grows-then s.parts next.parts (sent_datagrams same h to more next).parts (sent_datagram-grows h to datagram s) (sent_datagrams-grows h to more next))
 
   requested_if-grows : (b : Bool) (h : N) (ip : Ip4) (s : SceneOf N) → Grows 1 0 s.parts (requested_if same b h ip s).parts
   requested_if-grows b h ip s =
@@ -97,13 +95,11 @@ module _ {N : Type 0} (same : N → N → Bool) where
   pub held-grows : (common : Common) (h : N) (ip : Ip4) (datagram : List ℕ) (s : SceneOf N) → Grows 2 1 s.parts (held same common h ip datagram s).parts
   unfolding held
   held-grows common h ip datagram s =
+      let dropped = lost_if (drops_oldest same h ip s.parts.arp) tally.Full (waits same common h ip datagram s) in
       grows-more s.parts (requested_if same (asks same h ip s.parts.arp) h ip dropped).parts (omega arith) (omega arith)
       (grows-then s.parts dropped.parts (requested_if same (asks same h ip s.parts.arp) h ip dropped).parts
       (grows-then s.parts (waits same common h ip datagram s).parts dropped.parts (hold-grows common.clock h ip datagram s.parts) (lost_if-grows (drops_oldest same h ip s.parts.arp) tally.Full (waits same common h ip datagram s)))
       (requested_if-grows (asks same h ip s.parts.arp) h ip dropped))
-    where
-      dropped : SceneOf N
-      dropped = lost_if (drops_oldest same h ip s.parts.arp) tally.Full (waits same common h ip datagram s)
 
   pub carried-grows : (common : Common) (h : N) (ip : Ip4) (datagram : List ℕ) (s : SceneOf N) → Grows 2 1 s.parts (carried same common h ip datagram s).parts
   unfolding carried
@@ -173,13 +169,11 @@ module _ {N : Type 0} (same : N → N → Bool) where
     unfolding arp_heard
     arp_heard-grows packet =
         let few = waiting-few h packet.spa s.parts right in
+        let sent_on = sent_datagrams same h packet.sha (waiting same h packet s) (learnt same common h packet s) in
         grows-more s.parts (replied_if same ((is_target same h packet s) && (packet.op == request_op)) h packet sent_on).parts (omega (arith, few)) (omega arith)
         (grows-then s.parts sent_on.parts (replied_if same ((is_target same h packet s) && (packet.op == request_op)) h packet sent_on).parts
-        (grows-then s.parts (learnt same common h packet s).parts sent_on.parts (input-grows common.clock h packet.spa packet.sha (is_target same h packet s) s.parts) (released-grows h packet.sha (waiting same h packet s) (learnt same common h packet s)))
+        (grows-then s.parts (learnt same common h packet s).parts sent_on.parts (input-grows common.clock h packet.spa packet.sha (is_target same h packet s) s.parts) (sent_datagrams-grows h packet.sha (waiting same h packet s) (learnt same common h packet s)))
         (replied_if-grows ((is_target same h packet s) && (packet.op == request_op)) h packet sent_on))
-      where
-        sent_on : SceneOf N
-        sent_on = released same h packet.sha (waiting same h packet s) (learnt same common h packet s)
 
     lost-17 : Grows 17 1 s.parts (lost tally.Arp 1 s).parts
     lost-17 = grows-more s.parts (lost tally.Arp 1 s).parts (omega arith) (omega arith) (lost-grows tally.Arp 1 s)

@@ -1,11 +1,10 @@
 -- The packets of address resolution under other names of halves.
-use Rattle.std.proofs.Common.{◌≡◌, ℕ, Bool, true, false, cond, not, ◌&&◌, ◌||◌, ◌==◌, List, [], ◌∷◌, map, Option, Some, None, Result, Ok, Err, unwrap_or, refl, ap, ap₂, ◌∙◌}
+use Rattle.std.proofs.Common.{◌≡◌, ℕ, Bool, not, ◌&&◌, ◌||◌, ◌==◌, List, [], ◌∷◌, Option, Some, None, Result, Ok, Err, unwrap_or, refl, ap, ap₂, ◌∙◌}
 use Rattle.std.specs.Option.{option_map}
 use Rattle.vn_types.specs.declared.address.Ip4.{Ip4}
 use Rattle.vn_types.specs.declared.address.Mac.{Mac}
 use Rattle.vn_types.specs.declared.interface.IfOf.TheVariants.{Half}
 use Rattle.vn_rules.specs.declared.arp.ArpEntryOf.{ArpEntryOf}
-use Rattle.vn_rules.specs.declared.parts.PartsOf.{PartsOf}
 use Rattle.vn_rules.specs.Addresses.{on_interface}
 use Rattle.vn_rules.specs.Arp.{entry_of, hit}
 use Rattle.vn_rules.specs.Renamed.{as_arp, renamed}
@@ -22,7 +21,7 @@ use Rattle.vn_link.specs.declared.arp.ArpBad.{ArpBad}
 use Rattle.vn_link.specs.declared.arp.ArpPacket.{ArpPacket}
 use Rattle.vn_link.specs.Packets.{arp_of}
 use Rattle.vn_packets.specs.declared.tally.Tally.TheVariants as tally
-use Rattle.vn_packets.specs.ArpPackets.{request_op, request, gratuitous, reply, unset_ip, arp_frame, mac_of, sent_arp, asking_source, requested, announced, sent_datagram, released, requested_if, waits, held, carried_by, carried, is_stranger, replied_if, is_target, waiting, learnt, arp_heard, arp_read, arp_received, turn_told, arp_turned}
+use Rattle.vn_packets.specs.ArpPackets.{request_op, request, gratuitous, reply, unset_ip, arp_frame, mac_of, sent_arp, asking_source, requested, announced, sent_datagram, sent_datagrams, requested_if, waits, held, carried_by, carried, is_stranger, replied_if, is_target, waiting, learnt, arp_heard, arp_read, arp_received, turn_told, arp_turned}
 use Rattle.vn_packets.specs.Datagrams.{ip4_type, broadcast_mac, frame_with}
 use Rattle.vn_packets.specs.Drops.{on_parts, lost, lost_if}
 use Rattle.vn_packets.specs.Links.{sent}
@@ -57,45 +56,41 @@ module _ {N M : Type 0} (r : N → M) (at_n : N → N → Bool) (at_m : M → M 
       ap (λ mac. sent at_m (r h) (frame_with to mac ip4_type datagram) (renamed_scene r s)) (mac_of-renamed h s)
       ∙ sent-renamed r at_n at_m faithful h (frame_with to (mac_of at_n h s) ip4_type datagram) s
 
-  pub released-scene-renamed : (h : N) (to : Mac) (datagrams : List (List ℕ)) (s : SceneOf N) → released at_m (r h) to datagrams (renamed_scene r s) ≡ renamed_scene r (released at_n h to datagrams s)
-  unfolding released
-  released-scene-renamed h to [] s = refl
-  released-scene-renamed h to (datagram ∷ more) s =
-      ap (released at_m (r h) to more) (sent_datagram-renamed h to datagram s) ∙ released-scene-renamed h to more (sent_datagram at_n h to datagram s)
+  pub sent_datagrams-renamed : (h : N) (to : Mac) (datagrams : List (List ℕ)) (s : SceneOf N) → sent_datagrams at_m (r h) to datagrams (renamed_scene r s) ≡ renamed_scene r (sent_datagrams at_n h to datagrams s)
+  unfolding sent_datagrams
+  sent_datagrams-renamed h to [] s = refl
+  sent_datagrams-renamed h to (datagram ∷ more) s =
+      ap (sent_datagrams at_m (r h) to more) (sent_datagram-renamed h to datagram s) ∙ sent_datagrams-renamed h to more (sent_datagram at_n h to datagram s)
 
   -- ---- a datagram waits
 
   requested_if-renamed : {b c : Bool} → b ≡ c → (h : N) (ip : Ip4) (s : SceneOf N) → requested_if at_m b (r h) ip (renamed_scene r s) ≡ renamed_scene r (requested_if at_n c h ip s)
   requested_if-renamed test h ip s = choice (renamed_scene r) (requested at_n h ip s) s test (requested-renamed h ip s) refl
 
-  asks-so : (h : N) (ip : Ip4) (s : SceneOf N) → asks at_m (r h) ip (renamed_scene r s).parts.arp ≡ asks at_n h ip s.parts.arp
+  -- what the entries tell of an address
+  entries-so : (h : N) (ip : Ip4) (s : SceneOf N)
+      → (asks at_m (r h) ip (renamed_scene r s).parts.arp ≡ asks at_n h ip s.parts.arp) × (drops_oldest at_m (r h) ip (renamed_scene r s).parts.arp ≡ drops_oldest at_n h ip s.parts.arp)
+      × (hit at_m (r h) ip (renamed_scene r s).parts.arp ≡ hit at_n h ip s.parts.arp)
   unfolding renamed_scene renamed
-  asks-so h ip s = asks-renamed r at_n at_m faithful h ip s.parts.arp
-
-  drops-so : (h : N) (ip : Ip4) (s : SceneOf N) → drops_oldest at_m (r h) ip (renamed_scene r s).parts.arp ≡ drops_oldest at_n h ip s.parts.arp
-  unfolding renamed_scene renamed
-  drops-so h ip s = drops_oldest-renamed r at_n at_m faithful h ip s.parts.arp
+  entries-so h ip s =
+      (asks-renamed r at_n at_m faithful h ip s.parts.arp, drops_oldest-renamed r at_n at_m faithful h ip s.parts.arp, hit-renamed r at_n at_m faithful h ip s.parts.arp)
 
   pub held-renamed : (common : Common) (h : N) (ip : Ip4) (datagram : List ℕ) (s : SceneOf N) → held at_m common (r h) ip datagram (renamed_scene r s) ≡ renamed_scene r (held at_n common h ip datagram s)
   unfolding held
   held-renamed common h ip datagram s =
       ap (λ t. requested_if at_m (asks at_m (r h) ip (renamed_scene r s).parts.arp) (r h) ip (lost_if (drops_oldest at_m (r h) ip (renamed_scene r s).parts.arp) tally.Full t))
       (on_parts-renamed r (after_hold at_n common.clock h ip datagram) (after_hold at_m common.clock (r h) ip datagram) s (after_hold-renamed r at_n at_m faithful h ip common.clock datagram s.parts))
-      ∙ ap (requested_if at_m (asks at_m (r h) ip (renamed_scene r s).parts.arp) (r h) ip) (lost_if-renamed r (drops-so h ip s) tally.Full (waits at_n common h ip datagram s))
-      ∙ requested_if-renamed (asks-so h ip s) h ip (lost_if (drops_oldest at_n h ip s.parts.arp) tally.Full (waits at_n common h ip datagram s))
+      ∙ ap (requested_if at_m (asks at_m (r h) ip (renamed_scene r s).parts.arp) (r h) ip) (lost_if-renamed r (entries-so h ip s).1 tally.Full (waits at_n common h ip datagram s))
+      ∙ requested_if-renamed (entries-so h ip s).0 h ip (lost_if (drops_oldest at_n h ip s.parts.arp) tally.Full (waits at_n common h ip datagram s))
 
   carried_by-renamed : (o : Option Mac) (common : Common) (h : N) (ip : Ip4) (datagram : List ℕ) (s : SceneOf N) → carried_by at_m o common (r h) ip datagram (renamed_scene r s) ≡ renamed_scene r (carried_by at_n o common h ip datagram s)
   carried_by-renamed None common h ip datagram s = held-renamed common h ip datagram s
   carried_by-renamed (Some mac) common h ip datagram s = sent_datagram-renamed h mac datagram s
 
-  hit-so : (h : N) (ip : Ip4) (s : SceneOf N) → hit at_m (r h) ip (renamed_scene r s).parts.arp ≡ hit at_n h ip s.parts.arp
-  unfolding renamed_scene renamed
-  hit-so h ip s = hit-renamed r at_n at_m faithful h ip s.parts.arp
-
   pub carried-renamed : (common : Common) (h : N) (ip : Ip4) (datagram : List ℕ) (s : SceneOf N) → carried at_m common (r h) ip datagram (renamed_scene r s) ≡ renamed_scene r (carried at_n common h ip datagram s)
   unfolding carried
   carried-renamed common h ip datagram s =
-      ap (λ o. carried_by at_m o common (r h) ip datagram (renamed_scene r s)) (hit-so h ip s)
+      ap (λ o. carried_by at_m o common (r h) ip datagram (renamed_scene r s)) (entries-so h ip s).2
       ∙ carried_by-renamed (hit at_n h ip s.parts.arp) common h ip datagram s
 
   -- ---- a packet comes
@@ -123,12 +118,12 @@ module _ {N M : Type 0} (r : N → M) (at_n : N → N → Bool) (at_m : M → M 
     pub arp_heard-renamed : arp_heard at_m common (r h) packet (renamed_scene r s) ≡ renamed_scene r (arp_heard at_n common h packet s)
     unfolding arp_heard
     arp_heard-renamed =
-        ap₂ (λ here held. replied_if at_m (here && (packet.op == request_op)) (r h) packet (released at_m (r h) packet.sha held (on_parts (after_input at_m common.clock (r h) packet.spa packet.sha here) (renamed_scene r s))))
+        ap₂ (λ here held. replied_if at_m (here && (packet.op == request_op)) (r h) packet (sent_datagrams at_m (r h) packet.sha held (on_parts (after_input at_m common.clock (r h) packet.spa packet.sha here) (renamed_scene r s))))
         (target-so h packet.tpa s) (waiting-so h packet.spa s)
-        ∙ ap (λ t. replied_if at_m ((is_target at_n h packet s) && (packet.op == request_op)) (r h) packet (released at_m (r h) packet.sha (waiting at_n h packet s) t))
+        ∙ ap (λ t. replied_if at_m ((is_target at_n h packet s) && (packet.op == request_op)) (r h) packet (sent_datagrams at_m (r h) packet.sha (waiting at_n h packet s) t))
         (on_parts-renamed r (after_input at_n common.clock h packet.spa packet.sha (is_target at_n h packet s)) (after_input at_m common.clock (r h) packet.spa packet.sha (is_target at_n h packet s)) s (after_input-renamed r at_n at_m faithful h packet.spa common.clock packet.sha (is_target at_n h packet s) s.parts))
-        ∙ ap (replied_if at_m ((is_target at_n h packet s) && (packet.op == request_op)) (r h) packet) (released-scene-renamed h packet.sha (waiting at_n h packet s) (learnt at_n common h packet s))
-        ∙ replied_if-renamed {b = (is_target at_n h packet s) && (packet.op == request_op)} refl h packet (released at_n h packet.sha (waiting at_n h packet s) (learnt at_n common h packet s))
+        ∙ ap (replied_if at_m ((is_target at_n h packet s) && (packet.op == request_op)) (r h) packet) (sent_datagrams-renamed h packet.sha (waiting at_n h packet s) (learnt at_n common h packet s))
+        ∙ replied_if-renamed {b = (is_target at_n h packet s) && (packet.op == request_op)} refl h packet (sent_datagrams at_n h packet.sha (waiting at_n h packet s) (learnt at_n common h packet s))
 
   arp_read-renamed : (common : Common) (h : N) (read : Result ArpPacket ArpBad) (s : SceneOf N) → arp_read at_m common (r h) read (renamed_scene r s) ≡ renamed_scene r (arp_read at_n common h read s)
   arp_read-renamed common h (Err bad) s = lost-renamed r tally.Arp 1 s

@@ -1,23 +1,22 @@
 -- The packets of address resolution leave a scene sound.
-use Rattle.std.proofs.Common.{◌≡◌, ℕ, ◌+◌, Bool, true, false, cond, not, ◌&&◌, ◌||◌, ◌==◌, List, [], ◌∷◌, map, Option, Some, None, Result, Ok, Err, refl, sym, ap, ◌∙◌}
+use Rattle.std.proofs.Common.{◌≡◌, ℕ, ◌+◌, Bool, true, false, cond, ◌&&◌, ◌||◌, ◌==◌, List, [], ◌∷◌, Option, Some, None, Result, Ok, Err, refl}
 use Rattle.std.specs.Bool.{Decides}
 use Rattle.std.specs.Option.{option_map, option_map_or}
-use Rattle.std.proofs.lemmas.Bool.{or_parts}
+use Rattle.std.proofs.lemmas.Bool.{or_parts, not-false}
 use Rattle.vn_types.specs.declared.address.Ip4.{Ip4}
 use Rattle.vn_types.specs.declared.address.Mac.{Mac}
 use Rattle.vn_types.specs.declared.interface.IfOf.TheVariants.{Half}
 use Rattle.vn_rules.specs.declared.arp.ArpEntryOf.{ArpEntryOf}
 use Rattle.vn_rules.specs.declared.arp.ArpState.TheVariants.{Learnt}
 use Rattle.vn_rules.specs.declared.parts.PartsOf.{PartsOf}
-use Rattle.vn_rules.specs.Addresses.{local, on_interface}
-use Rattle.vn_rules.specs.Arp.{entry_of, hit, is_down, with_entry, holding, resolved, is_place, without_entries}
+use Rattle.vn_rules.specs.Addresses.{local}
+use Rattle.vn_rules.specs.Arp.{entry_of, hit, is_down, with_entry, holding, resolved, without_entries}
 use Rattle.vn_rules.specs.Interfaces.{is_among}
-use Rattle.vn_rules.specs.Resolution as resolution
 use Rattle.vn_rules.specs.Resolution.{TurnOf, Ask, GivesUp, Removed, request_time, learnt_time, turn_of, turned, timed_entry, untimed, asks, drops_oldest, merges, adds, after_hold, after_input, after_turn}
 use Rattle.vn_rules.specs.Routes.{covers}
 use Rattle.vn_rules.specs.Rules.{Common}
 use Rattle.vn_rules.specs.Scenes.{SceneOf, is_sound_scene}
-use Rattle.vn_rules.specs.Soundness.{is_sound_parts, is_sound_but}
+use Rattle.vn_rules.specs.Soundness.{is_sound_but}
 use Rattle.vn_rules.proofs.ArpKept.{after_input-sound, after_hold-sound}
 use Rattle.vn_rules.proofs.ArpRemoved.{after_turn-sound}
 use Rattle.vn_rules.proofs.LinkLaws.{are_queues}
@@ -25,10 +24,10 @@ use Rattle.vn_link.specs.declared.arp.ArpBad.{ArpBad}
 use Rattle.vn_link.specs.declared.arp.ArpPacket.{ArpPacket}
 use Rattle.vn_link.specs.Packets.{arp_of}
 use Rattle.vn_packets.specs.declared.tally.Tally.TheVariants as tally
-use Rattle.vn_packets.specs.ArpPackets.{request_op, request, gratuitous, reply, arp_frame, mac_of, sent_arp, asking_source, requested, announced, sent_datagram, released, requested_if, waits, held, carried_by, carried, is_stranger, replied_if, is_target, waiting, learnt, arp_heard, arp_read, arp_received, turn_told, arp_turned}
+use Rattle.vn_packets.specs.ArpPackets.{request_op, request, gratuitous, reply, arp_frame, mac_of, sent_arp, asking_source, requested, announced, sent_datagram, sent_datagrams, requested_if, waits, held, carried_by, carried, is_stranger, replied_if, is_target, waiting, learnt, arp_heard, arp_read, arp_received, turn_told, arp_turned}
 use Rattle.vn_packets.specs.Datagrams.{ip4_type, broadcast_mac, frame_with}
 use Rattle.vn_packets.specs.Drops.{on_parts, lost, lost_if}
-use Rattle.vn_packets.proofs.SceneSound.{Keeps, keeps-refl, keeps-then, keeps-either, keeps-by, parts-sound, queues-short, scene-sound, on_parts-keeps, lost-keeps, lost_if-keeps, sent-keeps}
+use Rattle.vn_packets.proofs.SceneSound.{Keeps, keeps-refl, keeps-then, keeps-either, keeps-by, parts-sound, scene-sound, on_parts-keeps, lost-keeps, lost_if-keeps, sent-keeps}
 
 module _ {N : Type 0} (same : N → N → Bool) where
   -- ---- what is sent
@@ -45,12 +44,12 @@ module _ {N : Type 0} (same : N → N → Bool) where
   unfolding sent_datagram
   sent_datagram-keeps h to datagram s sound = sent-keeps same h (frame_with to (mac_of same h s) ip4_type datagram) s sound
 
-  pub released-keeps : (h : N) (to : Mac) (datagrams : List (List ℕ)) (s : SceneOf N) → is_sound_scene same s ≡ true → Keeps same s (released same h to datagrams s)
-  unfolding released
-  released-keeps h to [] s sound = keeps-refl same s sound
-  released-keeps h to (datagram ∷ more) s sound =
-      keeps-then same s (sent_datagram same h to datagram s) (released same h to more (sent_datagram same h to datagram s)) (sent_datagram-keeps h to datagram s sound)
-      (released-keeps h to more (sent_datagram same h to datagram s))
+  pub sent_datagrams-keeps : (h : N) (to : Mac) (datagrams : List (List ℕ)) (s : SceneOf N) → is_sound_scene same s ≡ true → Keeps same s (sent_datagrams same h to datagrams s)
+  unfolding sent_datagrams
+  sent_datagrams-keeps h to [] s sound = keeps-refl same s sound
+  sent_datagrams-keeps h to (datagram ∷ more) s sound =
+      keeps-then same s (sent_datagram same h to datagram s) (sent_datagrams same h to more (sent_datagram same h to datagram s)) (sent_datagram-keeps h to datagram s sound)
+      (sent_datagrams-keeps h to more (sent_datagram same h to datagram s))
 
   requested_if-keeps : (b : Bool) (h : N) (ip : Ip4) (s : SceneOf N) → is_sound_scene same s ≡ true → Keeps same s (requested_if same b h ip s)
   requested_if-keeps b h ip s sound = keeps-either same s (requested same h ip s) s b (requested-keeps h ip s sound) (keeps-refl same s sound)
@@ -119,19 +118,15 @@ module _ {N : Type 0} (same : N → N → Bool) (decides : (a b : N) → Decides
     pub arp_heard-keeps : (packet : ArpPacket) → covers same (Half h) packet.spa s.parts.routes ≡ true → Keeps same s (arp_heard same common h packet s)
     unfolding arp_heard
     arp_heard-keeps packet covered =
-        keeps-then same s (learnt same common h packet s) (replied_if same ((is_target same h packet s) && (packet.op == request_op)) h packet (released same h packet.sha (waiting same h packet s) (learnt same common h packet s)))
+        keeps-then same s (learnt same common h packet s) (replied_if same ((is_target same h packet s) && (packet.op == request_op)) h packet (sent_datagrams same h packet.sha (waiting same h packet s) (learnt same common h packet s)))
         (on_parts-keeps same (after_input same common.clock h packet.spa packet.sha (is_target same h packet s)) s (after_input-sound same decides h packet.spa s.parts (parts-sound same s sound) among covered common.clock packet.sha (is_target same h packet s))
         (input-ifs same common.clock h packet.spa packet.sha (is_target same h packet s) s.parts) sound)
-        (λ is. keeps-then same (learnt same common h packet s) (released same h packet.sha (waiting same h packet s) (learnt same common h packet s)) (replied_if same ((is_target same h packet s) && (packet.op == request_op)) h packet (released same h packet.sha (waiting same h packet s) (learnt same common h packet s)))
-        (released-keeps same h packet.sha (waiting same h packet s) (learnt same common h packet s) is)
-        (replied_if-keeps same ((is_target same h packet s) && (packet.op == request_op)) h packet (released same h packet.sha (waiting same h packet s) (learnt same common h packet s))))
+        (λ is. keeps-then same (learnt same common h packet s) (sent_datagrams same h packet.sha (waiting same h packet s) (learnt same common h packet s)) (replied_if same ((is_target same h packet s) && (packet.op == request_op)) h packet (sent_datagrams same h packet.sha (waiting same h packet s) (learnt same common h packet s)))
+        (sent_datagrams-keeps same h packet.sha (waiting same h packet s) (learnt same common h packet s) is)
+        (replied_if-keeps same ((is_target same h packet s) && (packet.op == request_op)) h packet (sent_datagrams same h packet.sha (waiting same h packet s) (learnt same common h packet s))))
 
     covered-by : (ip : Ip4) → is_stranger same h ip s.parts ≡ false → covers same (Half h) ip s.parts.routes ≡ true
-    covered-by ip known = positive (covers same (Half h) ip s.parts.routes) (or_parts (local ip s.parts.addresses) _ known).1
-      where
-        positive : (b : Bool) → not b ≡ false → b ≡ true
-        positive true is = refl
-        positive false is = absurd (cc)
+    covered-by ip known = not-false (covers same (Half h) ip s.parts.routes) (or_parts (local ip s.parts.addresses) _ known).1
 
     arp_read-keeps : (read : Result ArpPacket ArpBad) → Keeps same s (arp_read same common h read s)
     arp_read-keeps (Err bad) = lost-keeps same tally.Arp 1 s sound
@@ -154,12 +149,10 @@ module _ {N : Type 0} (same : N → N → Bool) (decides : (a b : N) → Decides
   pub arp_turned-keeps : (common : Common) (h : N) (ip : Ip4) (s : SceneOf N) → is_sound_but same h ip s.parts ≡ true → are_queues same s.links ≡ true → Keeps same s (arp_turned same common h ip s)
   unfolding arp_turned
   arp_turned-keeps common h ip s sound short =
+      let turned_scene = on_parts (after_turn same common.clock h ip) s in
       keeps-then same s turned_scene (turn_told same h ip (option_map turn_of (entry_of same h ip s.parts.arp)) turned_scene)
       (record {
         sound = scene-sound same turned_scene (after_turn-sound same decides s.parts h ip sound common.clock) short;
         interfaces = turn-ifs same common.clock h ip s.parts;
       })
       (turn_told-keeps h ip (option_map turn_of (entry_of same h ip s.parts.arp)) turned_scene)
-    where
-      turned_scene : SceneOf N
-      turned_scene = on_parts (after_turn same common.clock h ip) s

@@ -20,7 +20,7 @@ use Rattle.vn_rules.specs.Resolution.{after_arp_set, after_static}
 use Rattle.vn_rules.specs.Routes.{gateway_half}
 use Rattle.vn_rules.specs.Rules.{Common, Rule}
 use Rattle.vn_rules.specs.Scenes.{SceneOf, link_of}
-use Rattle.vn_rules.specs.Sockets.{after_recv, after_sent, cleared, destination, port_at, socket_named}
+use Rattle.vn_rules.specs.Sockets.{after_recv, after_sent, cleared, destination, socket_named}
 use Rattle.vn_rules.proofs.LinkLaws.{set_up-parts}
 use Rattle.vn_packets.specs.declared.outgoing.Outgoing.{Outgoing}
 use Rattle.vn_packets.specs.AddressLinks.{announced_on, all_announced, come_up_on, up_rule}
@@ -30,8 +30,8 @@ use Rattle.vn_packets.specs.Drops.{on_parts}
 use Rattle.vn_packets.specs.Growth.{Grows}
 use Rattle.vn_packets.specs.Output.{output_left, output_sent}
 use Rattle.vn_packets.specs.PingCommand.{request_to, pinged, ping_rule}
-use Rattle.vn_packets.specs.UdpCommands.{nowhere, on_sockets, is_refused, answers_error, unless_refused, recv_rule, source_to, connected_from, connect_rule, sent_from, sending, send_rule}
-use Rattle.vn_packets.proofs.ArpPacketGrowth.{announced-grows, entry-few, released-grows}
+use Rattle.vn_packets.specs.UdpCommands.{nowhere, on_sockets, is_refused, answers_error, unless_refused, recv_rule, source_to, connected_from, connect_rule, sending_port, sent_from, sending, send_rule}
+use Rattle.vn_packets.proofs.ArpPacketGrowth.{announced-grows, entry-few, sent_datagrams-grows}
 use Rattle.vn_packets.proofs.PacketGrowth.{output_left-grows}
 use Rattle.vn_packets.proofs.SceneGrowth.{grows-refl, grows-then, grows-more, grows-armed, grows-either}
 
@@ -114,7 +114,7 @@ module _ {N : Type 0} (same : N → N → Bool) where
   released_on-grows None ip mac before s right = grows-more s.parts s.parts (omega arith) (omega arith) (grows-refl s.parts)
   released_on-grows (Some half) ip mac before s right =
       let few = held-few half ip before.parts right in
-      grows-more s.parts (released_on same (Some half) ip mac before s).parts (omega (arith, few)) (omega arith) (released-grows same half mac (held_for same half ip before.parts.arp) s)
+      grows-more s.parts (released_on same (Some half) ip mac before s).parts (omega (arith, few)) (omega arith) (sent_datagrams-grows same half mac (held_for same half ip before.parts.arp) s)
 
   pub arp_set_rule-grows : (ip : Ip4) (mac : Mac) (s : SceneOf N) → are_arp_entries s.parts.arp ≡ true → Grows 16 0 s.parts (arp_set_rule same ip mac s).otherwise.left.parts
   unfolding arp_set_rule
@@ -141,7 +141,7 @@ module _ {N : Type 0} (same : N → N → Bool) where
       → Grows 2 1 s.parts (sending same common name octets to o s).otherwise.left.parts
   sending-grows common name octets to None s = grows-more s.parts s.parts (omega arith) (omega arith) (grows-refl s.parts)
   sending-grows common name octets to (Some sock) s =
-      let port = unwrap_or (port_at sock.ip sock s.parts.sockets) 0 in
+      let port = sending_port sock s in
       let out : Outgoing = sent_from same sock port (unwrap_or (destination to sock) nowhere) octets s.parts in
       let left : SceneOf N = output_left same common out s in
       grows-then s.parts left.parts (on_sockets (after_sent name port) left).parts (output_left-grows same common out s) (on_sockets-grows (after_sent name port) left)

@@ -14,8 +14,8 @@ use Rattle.vn_rules.proofs.AddressLaws.{first-renamed}
 use Rattle.vn_packets.specs.declared.outgoing.Outgoing.{Outgoing}
 use Rattle.vn_packets.specs.declared.outgoing.SentOf.{SentOf}
 use Rattle.vn_packets.specs.declared.tally.Tally.TheVariants as tally
-use Rattle.vn_packets.specs.Datagrams.{error_octets, body_of, header_in}
-use Rattle.vn_packets.specs.Errors.{Trouble, kind_of, code_of, had_arrived, quoted, icmp_answer, sent_or_dropped, answered_back, error_source, errored_from, errored}
+use Rattle.vn_packets.specs.Datagrams.{body_of, header_in}
+use Rattle.vn_packets.specs.Errors.{Trouble, had_arrived, error_about, icmp_answer, sent_or_dropped, answered_back, error_source, errored_from, errored}
 use Rattle.vn_packets.specs.Output.{output}
 use Rattle.vn_packets.specs.Renamed.{as_output}
 use Rattle.vn_packets.proofs.DropLaws.{choice, lost-renamed}
@@ -40,7 +40,7 @@ module _ {N M : Type 0} (r : N → M) (at_n : N → N → Bool) (at_m : M → M 
       → errored_from at_m from common trouble datagram (renamed_scene r s) ≡ renamed_scene r (errored_from at_n from common trouble datagram s)
   errored_from-renamed None common trouble datagram s = refl
   errored_from-renamed (Some from) common trouble datagram s =
-      answered_back-renamed common (icmp_answer from (header_in datagram).src (error_octets (kind_of trouble) (code_of trouble) (quoted datagram))) s
+      answered_back-renamed common (icmp_answer from (header_in datagram).src (error_about trouble datagram)) s
 
   pub errored-renamed : (common : Common) (via : IfOf N) (trouble : Trouble) (datagram : List ℕ) (is_broadcast : Bool) (s : SceneOf N)
       → errored at_m common (as_if r via) trouble datagram is_broadcast (renamed_scene r s) ≡ renamed_scene r (errored at_n common via trouble datagram is_broadcast s)

@@ -13,9 +13,9 @@ use Rattle.vn_rules.specs.Scenes.{SceneOf, is_sound_scene}
 use Rattle.vn_ip4fmt.specs.Checksum.{lowered}
 use Rattle.vn_packets.specs.declared.outgoing.Outgoing.{Outgoing}
 use Rattle.vn_packets.specs.declared.tally.Tally.TheVariants as tally
-use Rattle.vn_packets.specs.Datagrams.{error_octets, body_of, header_in}
+use Rattle.vn_packets.specs.Datagrams.{body_of, header_in}
 use Rattle.vn_packets.specs.Drops.{lost}
-use Rattle.vn_packets.specs.Errors.{Trouble, TimeExceeded, kind_of, code_of, quoted, icmp_answer, sent_or_dropped, answered_back, error_source, errored_from, errored}
+use Rattle.vn_packets.specs.Errors.{Trouble, TimeExceeded, error_about, icmp_answer, sent_or_dropped, answered_back, error_source, errored_from, errored}
 use Rattle.vn_packets.specs.Forwarding.{way_troubles, troubles, way_of, forwarded_by, forwarded}
 use Rattle.vn_packets.specs.Output.{WayOf, Nowhere, Looped, By, output_refusals, output_left, output_sent, output}
 use Rattle.vn_packets.proofs.SceneSound.{Keeps, keeps-refl, keeps-then, keeps-either, lost-keeps}
@@ -33,7 +33,7 @@ module _ {N : Type 0} (same : N → N → Bool) (decides : (a b : N) → Decides
   errored_from-keeps : (from : Option Ip4) (common : Common) (trouble : Trouble) (datagram : List ℕ) (s : SceneOf N) → is_sound_scene same s ≡ true → Keeps same s (errored_from same from common trouble datagram s)
   errored_from-keeps None common trouble datagram s sound = keeps-refl same s sound
   errored_from-keeps (Some from) common trouble datagram s sound =
-      answered_back-keeps common (icmp_answer from (header_in datagram).src (error_octets (kind_of trouble) (code_of trouble) (quoted datagram))) s sound
+      answered_back-keeps common (icmp_answer from (header_in datagram).src (error_about trouble datagram)) s sound
 
   pub errored-keeps : (common : Common) (via : IfOf N) (trouble : Trouble) (datagram : List ℕ) (is_broadcast : Bool) (s : SceneOf N) → is_sound_scene same s ≡ true
       → Keeps same s (errored same common via trouble datagram is_broadcast s)

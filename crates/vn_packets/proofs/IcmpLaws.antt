@@ -22,7 +22,7 @@ use Rattle.vn_packets.specs.declared.tally.Tally.TheVariants as tally
 use Rattle.vn_packets.specs.Datagrams.{udp_protocol, message_octets, body_of, header_in}
 use Rattle.vn_packets.specs.Drops.{on_parts}
 use Rattle.vn_packets.specs.Errors.{icmp_answer}
-use Rattle.vn_packets.specs.Icmp.{Meaning, Asks, Replies, Fails, Refuses, Strange, is_kind, is_error, quoted_echo, quotes_echo, quoted_ports, unheard, replies, fails, refuses, meaning_quoted, meaning_of, echoed, icmp_meant, icmp_read, icmp_received}
+use Rattle.vn_packets.specs.Icmp.{Meaning, Asks, Replies, Fails, Refuses, Strange, is_kind, is_error, quoted_echo, quotes_echo, quoted_ports, nothing_told, replies, fails, refuses, meaning_quoted, meaning_of, echoed, icmp_meant, icmp_read, icmp_received}
 use Rattle.vn_packets.specs.Renamed.{as_heard}
 use Rattle.vn_packets.proofs.DropLaws.{choice, on_parts-renamed, lost-renamed}
 use Rattle.vn_packets.proofs.ErrorLaws.{answered_back-renamed}
@@ -87,8 +87,8 @@ module _ {N M : Type 0} (r : N → M) where
 
   -- ---- what is done
 
-  pub unheard-renamed : {t : SceneOf M} (s : SceneOf N) → t ≡ renamed_scene r s → unheard t ≡ as_heard r (unheard s)
-  unheard-renamed s same = ap unheard same
+  pub nothing_told-renamed : {t : SceneOf M} (s : SceneOf N) → t ≡ renamed_scene r s → nothing_told t ≡ as_heard r (nothing_told s)
+  nothing_told-renamed s same = ap nothing_told same
 
   ended-renamed : (ping : PingOf N) (s : SceneOf N) → on_parts (without_ping (as_ping r ping)) (renamed_scene r s) ≡ renamed_scene r (on_parts (without_ping ping) s)
   ended-renamed ping s = on_parts-renamed r (without_ping ping) (without_ping (as_ping r ping)) s (without_ping-renamed r ping s.parts)
@@ -113,11 +113,11 @@ module _ {N M : Type 0} (r : N → M) (at_n : N → N → Bool) (at_m : M → M 
   icmp_meant-renamed : (common : Common) (head : Ip4Head) (size : ℕ) (m : Message) (meaning : Meaning N) (s : SceneOf N)
       → icmp_meant at_m common head size m (as_meaning r meaning) (renamed_scene r s) ≡ as_heard r (icmp_meant at_n common head size m meaning s)
   unfolding as_meaning
-  icmp_meant-renamed common head size m Asks s = ap unheard (echoed-renamed common head m s)
+  icmp_meant-renamed common head size m Asks s = ap nothing_told (echoed-renamed common head m s)
   icmp_meant-renamed common head size m (Replies ping) s = λ i. record { left = ended-renamed r ping s i; heard = Pong head.src m.id head.ttl size }
   icmp_meant-renamed common head size m (Fails ping) s = λ i. record { left = ended-renamed r ping s i; heard = Fault m.kind m.code head.src ping.id }
-  icmp_meant-renamed common head size m (Refuses src sport dst dport) s = ap unheard (told-renamed r src sport dst dport s)
-  icmp_meant-renamed common head size m Strange s = ap unheard (lost-renamed r tally.Icmp 1 s)
+  icmp_meant-renamed common head size m (Refuses src sport dst dport) s = ap nothing_told (told-renamed r src sport dst dport s)
+  icmp_meant-renamed common head size m Strange s = ap nothing_told (lost-renamed r tally.Icmp 1 s)
 
   meaning-so : (m : Message) (from : Ip4) (s : SceneOf N) → meaning_of m from (renamed_scene r s).parts ≡ as_meaning r (meaning_of m from s.parts)
   unfolding renamed_scene
@@ -125,7 +125,7 @@ module _ {N M : Type 0} (r : N → M) (at_n : N → N → Bool) (at_m : M → M 
 
   icmp_read-renamed : (common : Common) (head : Ip4Head) (size : ℕ) (read : Result Message IcmpBad) (s : SceneOf N)
       → icmp_read at_m common head size read (renamed_scene r s) ≡ as_heard r (icmp_read at_n common head size read s)
-  icmp_read-renamed common head size (Err bad) s = ap unheard (lost-renamed r tally.Icmp 1 s)
+  icmp_read-renamed common head size (Err bad) s = ap nothing_told (lost-renamed r tally.Icmp 1 s)
   icmp_read-renamed common head size (Ok m) s =
       ap (λ meaning. icmp_meant at_m common head size m meaning (renamed_scene r s)) (meaning-so m head.src s)
       ∙ icmp_meant-renamed common head size m (meaning_of m head.src s.parts) s

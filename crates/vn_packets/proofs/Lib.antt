@@ -1,3 +1,4 @@
+pub mod Counting
 pub mod DropLaws
 pub mod SentLaws
 pub mod ArpPacketLaws

@@ -26,7 +26,7 @@ use Rattle.vn_packets.specs.declared.outgoing.TheConstants.{HALF_MTU}
 use Rattle.vn_packets.specs.ArpPackets.{unset_ip}
 use Rattle.vn_packets.specs.Datagrams.{total_of, datagram_with}
 use Rattle.vn_packets.specs.Drops.{on_parts}
-use Rattle.vn_packets.specs.Links.{is_full}
+use Rattle.vn_packets.specs.Links.{is_link_full}
 use Rattle.vn_packets.specs.Output.{WayOf, Nowhere, Looped, By, may_not_reach, way_along, way_to, way_out, source_by, chosen_source, source_of, half_refusals, way_refusals, output_refusals, identified, looped, sent_along, next_datagram, output_left, output_sent, output}
 use Rattle.vn_packets.specs.Renamed.{as_way, as_sent, as_output}
 use Rattle.vn_packets.proofs.DropLaws.{choice, on_parts-renamed}
@@ -38,6 +38,10 @@ module _ {N M : Type 0} (r : N → M) where
   pub may_not_reach-renamed : (ip : Ip4) (p : PartsOf N) → may_not_reach ip (renamed r p) ≡ may_not_reach ip p
   unfolding may_not_reach renamed
   may_not_reach-renamed ip p = ap (λ b. is_no_host ip || b) (broadcast-renamed r ip p.addresses)
+
+  pub reach-so : (ip : Ip4) (s : SceneOf N) → may_not_reach ip (renamed_scene r s).parts ≡ may_not_reach ip s.parts
+  unfolding renamed_scene
+  reach-so ip s = may_not_reach-renamed ip s.parts
 
   way_along-renamed : (ip : Ip4) (o : Option (Routed N)) → way_along ip (option_map (as_routed r) o) ≡ as_way r (way_along ip o)
   way_along-renamed ip None = refl
@@ -82,7 +86,7 @@ module _ {N M : Type 0} (r : N → M) (at_n : N → N → Bool) (at_m : M → M 
   half_refusals-renamed : (h : N) (l : LinkOf N) (hop src : Ip4) (send : Outgoing) (entries : List (ArpEntryOf N))
       → half_refusals at_m (r h) (as_link r l) hop src send (map (as_arp r) entries) ≡ half_refusals at_n h l hop src send entries
   half_refusals-renamed h l hop src send entries =
-      ap₂ (λ down known. (not l.up, errno.NetDown) ∷ (is_loopback src || is_loopback send.dst, errno.AddrNotAvail) ∷ (nat_lt HALF_MTU (total_of send), errno.MsgSize) ∷ (down, errno.HostDown) ∷ (is_some known && is_full l, errno.NoBufs) ∷ [])
+      ap₂ (λ down known. (not l.up, errno.NetDown) ∷ (is_loopback src || is_loopback send.dst, errno.AddrNotAvail) ∷ (nat_lt HALF_MTU (total_of send), errno.MsgSize) ∷ (down, errno.HostDown) ∷ (is_some known && is_link_full l, errno.NoBufs) ∷ [])
       (is_down-renamed r at_n at_m faithful h hop entries) (hit-renamed r at_n at_m faithful h hop entries)
 
   by_half-renamed : (h : N) (l : LinkOf N) (hop src : Ip4) (send : Outgoing) (s : SceneOf N)
@@ -101,14 +105,10 @@ module _ {N M : Type 0} (r : N → M) (at_n : N → N → Bool) (at_m : M → M 
       ap₂ (λ l src. half_refusals at_m (r h) l hop src send (renamed_scene r s).parts.arp) (link_of-renamed r at_n at_m faithful h s) (source-so send s)
       ∙ by_half-renamed h (link_of at_n h s) hop (source_of at_n send s.parts) send s
 
-  pub reach-so : (ip : Ip4) (s : SceneOf N) → may_not_reach ip (renamed_scene r s).parts ≡ may_not_reach ip s.parts
-  unfolding renamed_scene
-  reach-so ip s = may_not_reach-renamed r ip s.parts
-
   pub output_refusals-renamed : (no_route : Errno) (send : Outgoing) (s : SceneOf N) → output_refusals at_m no_route send (renamed_scene r s) ≡ output_refusals at_n no_route send s
   unfolding output_refusals
   output_refusals-renamed no_route send s =
-      ap₂ (λ (far : Bool) (more : Conditions). (far, errno.Inval) ∷ more) (reach-so send.dst s)
+      ap₂ (λ (far : Bool) (more : Conditions). (far, errno.Inval) ∷ more) (reach-so r send.dst s)
       (ap (λ w. way_refusals at_m w no_route send (renamed_scene r s)) (way-so send.dst s) ∙ way_refusals-renamed (way_to send.dst s.parts) no_route send s)
 
   -- ---- what is left

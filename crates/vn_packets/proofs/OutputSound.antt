@@ -29,11 +29,10 @@ use Rattle.vn_rules.specs.Soundness.{is_founded, founds_routes, times_arp, is_so
 use Rattle.vn_rules.proofs.Kept.{from_any}
 use Rattle.vn_rules.proofs.Named.{own_names}
 use Rattle.vn_rules.proofs.RouteChoice.{lookup-longest}
-use Rattle.vn_rules.proofs.SoundFacts.{SoundFacts, facts_from_sound}
 use Rattle.vn_packets.specs.declared.outgoing.Outgoing.{Outgoing}
 use Rattle.vn_packets.specs.Drops.{on_parts}
 use Rattle.vn_packets.specs.Output.{WayOf, Nowhere, Looped, By, may_not_reach, way_along, way_to, output_refusals, way_refusals, identified, sent_along, next_datagram, output_left}
-use Rattle.vn_packets.proofs.SceneSound.{Keeps, keeps-refl, keeps-then, parts-sound, identified-keeps, looped-keeps}
+use Rattle.vn_packets.proofs.SceneSound.{Keeps, keeps-refl, keeps-then, parts-sound, sound_facts, identified-keeps, looped-keeps}
 use Rattle.vn_packets.proofs.ArpPacketSound.{carried-keeps}
 
 module _ {N : Type 0} (same : N → N → Bool) (decides : (a b : N) → Decides (same a b) (a ≡ b)) where
@@ -56,9 +55,6 @@ module _ {N : Type 0} (same : N → N → Bool) (decides : (a b : N) → Decides
   next {a = a} is = ap (λ w. hop_by w a) is
 
   module _ (p : PartsOf N) (sound : is_sound_parts same p ≡ true) where
-    facts : SoundFacts same (times_arp same) p
-    facts = facts_from_sound same (times_arp same) p sound
-
     -- what each route passes, the one that was found passes
     found-passes : (t : Routed N → Bool) (e : Routed N) → Contains p.routes e → list_all t p.routes ≡ true → t e ≡ true
     found-passes t e stands all = All-contains (λ f. t f ≡ true) p.routes e (AllPass-from_list_all t p.routes all) stands
@@ -71,7 +67,7 @@ module _ {N : Type 0} (same : N → N → Bool) (decides : (a b : N) → Decides
         list_any-from_Any (λ (f : Routed N). is_link_on same (Half h) f.1 && lies_in hop f.0) p.routes
         (stands.0, (to, Link (Half own)), stands.1, stands.2, and_from _ _ ((decides own h).1 (half is)) (ap (λ there. lies_in there to) (sym (next is)) ∙ lies))
     along-covered ip (to, Gateway via own) h hop stands lies is =
-        (λ i. covers same (Half (sym (half is) i)) (sym (next is) i) p.routes) ∙ found-passes (is_founded same p) (to, Gateway via own) stands facts.founded
+        (λ i. covers same (Half (sym (half is) i)) (sym (next is) i) p.routes) ∙ found-passes (is_founded same p) (to, Gateway via own) stands (sound_facts same p sound).founded
 
     pub way-covered : (ip : Ip4) (h : N) (hop : Ip4) → way_to ip p ≡ By h hop → covers same (Half h) hop p.routes ≡ true
     unfolding way_to
@@ -89,7 +85,7 @@ module _ {N : Type 0} (same : N → N → Bool) (decides : (a b : N) → Decides
     pub covering-own : (h : N) (ip : Ip4) → covers same (Half h) ip p.routes ≡ true → is_among same p.interfaces (Half h) ≡ true
     unfolding covers
     covering-own h ip covered =
-        from_any (λ (e : Routed N). is_link_on same (Half h) e.1 && lies_in ip e.0) (λ (e : Routed N). is_among same p.interfaces (target_if e.1)) (is_among same p.interfaces (Half h)) p.routes by covered (own_names same (times_arp same) p facts).routes
+        from_any (λ (e : Routed N). is_link_on same (Half h) e.1 && lies_in ip e.0) (λ (e : Routed N). is_among same p.interfaces (target_if e.1)) (is_among same p.interfaces (Half h)) p.routes by covered (own_names same (times_arp same) p (sound_facts same p sound)).routes
       where
         by : (e : Routed N) → (is_link_on same (Half h) e.1 && lies_in ip e.0) ≡ true → is_among same p.interfaces (target_if e.1) ≡ true → is_among same p.interfaces (Half h) ≡ true
         by (to, Link on) link is = ap (is_among same p.interfaces) (sym ((if_same-Decides same decides on (Half h)).0 (and_parts (if_same same on (Half h)) (lies_in ip to) link).0)) ∙ is

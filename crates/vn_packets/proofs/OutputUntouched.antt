@@ -14,7 +14,7 @@ use Rattle.vn_packets.specs.declared.tally.Tally.{Tally}
 use Rattle.vn_packets.specs.declared.tally.Tally.TheVariants as tally
 use Rattle.vn_packets.specs.ArpPackets.{requested, sent_datagram, held, carried_by, carried}
 use Rattle.vn_packets.specs.Drops.{on_parts, counted, lost, lost_if}
-use Rattle.vn_packets.specs.Links.{is_full, queued, sent_by, sent}
+use Rattle.vn_packets.specs.Links.{is_link_full, enqueued, sent_by, sent}
 use Rattle.vn_packets.specs.Output.{WayOf, Nowhere, Looped, By, way_to, identified, sent_along, next_datagram, output_left}
 
 module _ {N : Type 0} where
@@ -35,17 +35,17 @@ module _ {N : Type 0} where
   either s t u false left right = right
 
 module _ {N : Type 0} (same : N → N → Bool) where
-  queued-untouched : (h : N) (frame : List ℕ) (s : SceneOf N) → untouched (queued same h frame s) ≡ untouched s
-  unfolding queued on_link
-  queued-untouched h frame s = refl
+  enqueued-untouched : (h : N) (frame : List ℕ) (s : SceneOf N) → untouched (enqueued same h frame s) ≡ untouched s
+  unfolding enqueued on_link
+  enqueued-untouched h frame s = refl
 
   sent-untouched : (h : N) (frame : List ℕ) (s : SceneOf N) → untouched (sent same h frame s) ≡ untouched s
   unfolding sent
   sent-untouched h frame s = by (link_of same h s)
     where
       by : (l : LinkOf N) → untouched (sent_by same l h frame s) ≡ untouched s
-      by l = either s (lost tally.Link 1 s) (cond (is_full l) (lost tally.Full 1 s) (queued same h frame s)) (not l.up) (lost-untouched tally.Link 1 s)
-          (either s (lost tally.Full 1 s) (queued same h frame s) (is_full l) (lost-untouched tally.Full 1 s) (queued-untouched h frame s))
+      by l = either s (lost tally.Link 1 s) (cond (is_link_full l) (lost tally.Full 1 s) (enqueued same h frame s)) (not l.up) (lost-untouched tally.Link 1 s)
+          (either s (lost tally.Full 1 s) (enqueued same h frame s) (is_link_full l) (lost-untouched tally.Full 1 s) (enqueued-untouched h frame s))
 
   requested-untouched : (h : N) (ip : Ip4) (s : SceneOf N) → untouched (requested same h ip s) ≡ untouched s
   unfolding requested

@@ -18,7 +18,7 @@ use Rattle.vn_rules.specs.Pings.{timed_by, without_pings, without_ping}
 use Rattle.vn_rules.specs.Rules.{Common}
 use Rattle.vn_rules.specs.Scenes.{SceneOf, link_of}
 use Rattle.vn_rules.specs.Sockets.{is_full_at, with_gram, refused_by}
-use Rattle.vn_rules.specs.Timers.{Timed, next_due, without_timed}
+use Rattle.vn_rules.specs.Timers.{Timed, next_due}
 use Rattle.vn_rules.specs.Variables.{is_forwarding}
 use Rattle.vn_ip4fmt.specs.declared.head.Ip4Head.{Ip4Head}
 use Rattle.vn_ip4fmt.specs.Checksum.{lowered}
@@ -31,18 +31,19 @@ use Rattle.vn_udpfmt.specs.Datagram.{refusal}
 use Rattle.vn_packets.specs.declared.outgoing.Outgoing.{Outgoing}
 use Rattle.vn_packets.specs.declared.tally.Tally.TheVariants as tally
 use Rattle.vn_packets.specs.ArpPackets.{arp_received}
-use Rattle.vn_packets.specs.Datagrams.{ip4_type, arp_type, broadcast_mac, udp_protocol, error_octets, message_octets, whole, body_of, header_in}
+use Rattle.vn_packets.specs.Datagrams.{ip4_type, arp_type, broadcast_mac, udp_protocol, message_octets, whole, body_of, header_in}
 use Rattle.vn_packets.specs.Drops.{on_parts, counted, lost}
-use Rattle.vn_packets.specs.Errors.{Trouble, ProtocolUnreachable, PortUnreachable, kind_of, code_of, quoted, icmp_answer, sent_or_dropped, answered_back, error_source, errored_from, errored}
+use Rattle.vn_packets.specs.Errors.{Trouble, ProtocolUnreachable, PortUnreachable, error_about, icmp_answer, sent_or_dropped, answered_back, error_source, errored_from, errored}
 use Rattle.vn_packets.specs.Fired.{timed_out, fired_for, fired}
 use Rattle.vn_packets.specs.Forwarding.{troubles, way_of, forwarded_by, forwarded}
 use Rattle.vn_packets.specs.Growth.{Grows}
-use Rattle.vn_packets.specs.Icmp.{HeardOf, Meaning, Asks, Replies, Fails, Refuses, Strange, unheard, meaning_of, echoed, icmp_meant, icmp_read, icmp_received}
+use Rattle.vn_packets.specs.Icmp.{HeardOf, Meaning, Asks, Replies, Fails, Refuses, Strange, nothing_told, meaning_of, echoed, icmp_meant, icmp_read, icmp_received}
 use Rattle.vn_packets.specs.Output.{WayOf, Nowhere, Looped, By, way_to, identified, looped, output_refusals, sent_along, next_datagram, output_left, output_sent, output}
-use Rattle.vn_packets.specs.Reception.{mac_eq, is_dropped_at_once, unsupported, kept, passed_on, taken, datagram_received, looped_back, loop_received, frame_taken, hears, frame_read, frame_received}
+use Rattle.vn_packets.specs.Reception.{mac_eq, is_dropped_at_once, unsupported, delivered_locally, passed_on, dispatched, datagram_received, looped_back, loop_received, frame_taken, accepts_frame, frame_read, frame_received}
 use Rattle.vn_packets.specs.Udp.{gram_from, given, receiver, received_by, udp_received}
 use Rattle.vn_packets.proofs.SceneGrowth.{grows-then, grows-more, grows-armed, grows-either, lost-grows}
 use Rattle.vn_packets.proofs.ArpPacketGrowth.{carried-grows, arp_received-grows, arp_turned-grows}
+use Rattle.vn_packets.proofs.TakenTimers.{without_due}
 
 module _ {N : Type 0} where
   -- nothing at all
@@ -76,11 +77,9 @@ module _ {N : Type 0} (same : N → N → Bool) (common : Common) where
   pub output_left-grows : (send : Outgoing) (s : SceneOf N) → Grows 2 1 s.parts (output_left same common send s).parts
   unfolding output_left
   output_left-grows send s =
-      grows-more s.parts out.parts (omega arith) (omega arith)
-      (grows-then s.parts (identified s.parts) out.parts (still {k = 0} {a = 0} s.parts (identified s.parts) refl refl refl) (sent_along-grows (way_to send.dst s.parts) (next_datagram same send s.parts) (on_parts identified s)))
-    where
-      out : SceneOf N
-      out = sent_along same (way_to send.dst s.parts) common (next_datagram same send s.parts) (on_parts identified s)
+      grows-more s.parts (output_left same common send s).parts (omega arith) (omega arith)
+      (grows-then s.parts (identified s.parts) (output_left same common send s).parts (still {k = 0} {a = 0} s.parts (identified s.parts) refl refl refl)
+      (sent_along-grows (way_to send.dst s.parts) (next_datagram same send s.parts) (on_parts identified s)))
 
   answered_back-grows : (send : Outgoing) (s : SceneOf N) → Grows 2 1 s.parts (answered_back same common send s).parts
   unfolding answered_back output
@@ -98,7 +97,7 @@ module _ {N : Type 0} (same : N → N → Bool) (common : Common) where
     where
       by : (from : Option Ip4) → Grows 2 1 s.parts (errored_from same from common trouble datagram s).parts
       by None = still s.parts s.parts refl refl refl
-      by (Some from) = answered_back-grows (icmp_answer from (header_in datagram).src (error_octets (kind_of trouble) (code_of trouble) (quoted datagram))) s
+      by (Some from) = answered_back-grows (icmp_answer from (header_in datagram).src (error_about trouble datagram)) s
 
   -- what is dropped with an error
   dropped-grows : (via : IfOf N) (trouble : Trouble) (datagram : List ℕ) (is_broadcast : Bool) (s t : SceneOf N) → Grows 1 0 s.parts t.parts
@@ -151,13 +150,13 @@ module _ {N : Type 0} (same : N → N → Bool) (common : Common) where
         by None = dropped-grows via PortUnreachable datagram is_broadcast s (lost tally.Udp 1 s) (lost-grows tally.Udp 1 s)
         by (Some place) = given-grows place (gram_from (header_in datagram).src (body_of datagram) via) s
 
-    kept-grows : (datagram : List ℕ) → Grows 3 1 s.parts (kept same common via datagram is_broadcast s).left.parts
-    unfolding kept
-    kept-grows datagram =
+    delivered_locally-grows : (datagram : List ℕ) → Grows 3 1 s.parts (delivered_locally same common via datagram is_broadcast s).left.parts
+    unfolding delivered_locally
+    delivered_locally-grows datagram =
         heard-grows s (icmp_received same common datagram s)
-        (cond ((header_in datagram).proto == udp_protocol) (unheard (udp_received same common via datagram is_broadcast s)) (unheard (unsupported same common via datagram is_broadcast s)))
+        (cond ((header_in datagram).proto == udp_protocol) (nothing_told (udp_received same common via datagram is_broadcast s)) (nothing_told (unsupported same common via datagram is_broadcast s)))
         ((header_in datagram).proto == icmp_protocol) (icmp_received-grows datagram s)
-        (heard-grows s (unheard (udp_received same common via datagram is_broadcast s)) (unheard (unsupported same common via datagram is_broadcast s)) ((header_in datagram).proto == udp_protocol)
+        (heard-grows s (nothing_told (udp_received same common via datagram is_broadcast s)) (nothing_told (unsupported same common via datagram is_broadcast s)) ((header_in datagram).proto == udp_protocol)
         (udp_received-grows datagram) (dropped-grows via ProtocolUnreachable datagram is_broadcast s (lost tally.Ip 1 s) (lost-grows tally.Ip 1 s)))
 
     passed_on-grows : (datagram : List ℕ) → Grows 3 1 s.parts (passed_on same common via datagram is_broadcast s).parts
@@ -169,10 +168,10 @@ module _ {N : Type 0} (same : N → N → Bool) (common : Common) where
     pub datagram_received-grows : (octets : List ℕ) → Grows 3 1 s.parts (datagram_received same common via octets is_broadcast s).left.parts
     unfolding datagram_received
     datagram_received-grows octets =
-        heard-grows s (unheard (lost tally.Ip 1 s)) (taken same common via (whole octets) is_broadcast s) (is_dropped_at_once via octets s.parts)
+        heard-grows s (nothing_told (lost tally.Ip 1 s)) (dispatched same common via (whole octets) is_broadcast s) (is_dropped_at_once via octets s.parts)
         (one-drop s (lost tally.Ip 1 s) (omega arith) (lost-grows tally.Ip 1 s))
-        (heard-grows s (kept same common via (whole octets) is_broadcast s) (unheard (passed_on same common via (whole octets) is_broadcast s)) (local (header_in (whole octets)).dst s.parts.addresses)
-        (kept-grows (whole octets)) (passed_on-grows (whole octets)))
+        (heard-grows s (delivered_locally same common via (whole octets) is_broadcast s) (nothing_told (passed_on same common via (whole octets) is_broadcast s)) (local (header_in (whole octets)).dst s.parts.addresses)
+        (delivered_locally-grows (whole octets)) (passed_on-grows (whole octets)))
 
   pub loop_received-grows : (s : SceneOf N) → Grows 3 1 s.parts (loop_received same common s).left.parts
   unfolding loop_received
@@ -200,22 +199,18 @@ module _ {N : Type 0} (same : N → N → Bool) (common : Common) where
         by : (read : Result EthFrame EthBad) → Grows 17 1 s.parts (frame_read same (link_of same h s) common h read s).left.parts
         by (Err bad) = link
         by (Ok frame) =
-            heard-grows s (frame_taken same common h frame s) (unheard (lost tally.Link 1 s)) (hears (link_of same h s) frame)
-            (heard-grows s (unheard (arp_received same common h frame.payload s))
-            (cond (frame.kind == ip4_type) (datagram_received same common (Half h) frame.payload (mac_eq frame.dst broadcast_mac) s) (unheard (lost tally.Link 1 s))) (frame.kind == arp_type)
+            heard-grows s (frame_taken same common h frame s) (nothing_told (lost tally.Link 1 s)) (accepts_frame (link_of same h s) frame)
+            (heard-grows s (nothing_told (arp_received same common h frame.payload s))
+            (cond (frame.kind == ip4_type) (datagram_received same common (Half h) frame.payload (mac_eq frame.dst broadcast_mac) s) (nothing_told (lost tally.Link 1 s))) (frame.kind == arp_type)
             (arp_received-grows same common h s right frame.payload)
-            (heard-grows s (datagram_received same common (Half h) frame.payload (mac_eq frame.dst broadcast_mac) s) (unheard (lost tally.Link 1 s)) (frame.kind == ip4_type)
+            (heard-grows s (datagram_received same common (Half h) frame.payload (mac_eq frame.dst broadcast_mac) s) (nothing_told (lost tally.Link 1 s)) (frame.kind == ip4_type)
             (grows-more s.parts (datagram_received same common (Half h) frame.payload (mac_eq frame.dst broadcast_mac) s).left.parts (omega arith) (omega arith)
             (datagram_received-grows (Half h) (mac_eq frame.dst broadcast_mac) s frame.payload)) link))
             link
 
-    -- the stack without a timer
-    abbrev without : Option (Timed N) → SceneOf N
-    without o = on_parts (λ p. record p { timers = without_timed o p.timers }) s
-
-    taken-grows : (o : Option (Timed N)) → Grows 0 0 s.parts (without o).parts
-    taken-grows None = still s.parts (without None).parts refl refl refl
-    taken-grows (Some e) = still s.parts (without (Some e)).parts refl refl refl
+    taken-grows : (o : Option (Timed N)) → Grows 0 0 s.parts (without_due o s).parts
+    taken-grows None = still s.parts (without_due None s).parts refl refl refl
+    taken-grows (Some e) = still s.parts (without_due (Some e) s).parts refl refl refl
 
     pub fired-grows : Grows 16 1 s.parts (fired same common s).left.parts
     unfolding fired
@@ -225,11 +220,11 @@ module _ {N : Type 0} (same : N → N → Bool) (common : Common) where
         ended None t = still t.parts t.parts refl refl refl
         ended (Some ping) t = ended-grows ping t
 
-        by : (o : Option (Timed N)) → Grows 16 1 s.parts (fired_for same common (option_map (λ (e : Timed N). e.1) o) (without o)).left.parts
+        by : (o : Option (Timed N)) → Grows 16 1 s.parts (fired_for same common (option_map (λ (e : Timed N). e.1) o) (without_due o s)).left.parts
         by None = still s.parts s.parts refl refl refl
         by (Some (at, Arp h ip)) =
-            grows-then s.parts (without (Some (at, Arp h ip))).parts (fired_for same common (Some (Arp h ip)) (without (Some (at, Arp h ip)))).left.parts (taken-grows (Some (at, Arp h ip)))
-            (arp_turned-grows same common h (without (Some (at, Arp h ip))) right ip)
+            grows-then s.parts (without_due (Some (at, Arp h ip)) s).parts (fired_for same common (Some (Arp h ip)) (without_due (Some (at, Arp h ip)) s)).left.parts (taken-grows (Some (at, Arp h ip)))
+            (arp_turned-grows same common h (without_due (Some (at, Arp h ip)) s) right ip)
         by (Some (at, Ping id arm)) =
-            grows-then s.parts (without (Some (at, Ping id arm))).parts (fired_for same common (Some (Ping id arm)) (without (Some (at, Ping id arm)))).left.parts (taken-grows (Some (at, Ping id arm)))
-            (ended (timed_by arm s.parts.pings) (without (Some (at, Ping id arm))))
+            grows-then s.parts (without_due (Some (at, Ping id arm)) s).parts (fired_for same common (Some (Ping id arm)) (without_due (Some (at, Ping id arm)) s)).left.parts (taken-grows (Some (at, Ping id arm)))
+            (ended (timed_by arm s.parts.pings) (without_due (Some (at, Ping id arm)) s))

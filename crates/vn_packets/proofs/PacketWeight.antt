@@ -16,10 +16,10 @@ use Rattle.vn_rules.specs.Scenes.{SceneOf}
 use Rattle.vn_link.specs.declared.arp.ArpPacket.{ArpPacket}
 use Rattle.vn_packets.specs.declared.outgoing.Outgoing.{Outgoing}
 use Rattle.vn_packets.specs.declared.tally.Tally.TheVariants as tally
-use Rattle.vn_packets.specs.ArpPackets.{request_op, request, reply, arp_frame, mac_of, asking_source, requested, sent_datagram, released, requested_if, waits, held, carried_by, carried, replied_if, is_target, waiting, learnt, arp_heard}
-use Rattle.vn_packets.specs.Datagrams.{ip4_type, broadcast_mac, frame_with, error_octets, header_in}
+use Rattle.vn_packets.specs.ArpPackets.{request_op, request, reply, arp_frame, mac_of, asking_source, requested, sent_datagram, sent_datagrams, requested_if, waits, held, carried_by, carried, replied_if, is_target, waiting, learnt, arp_heard}
+use Rattle.vn_packets.specs.Datagrams.{ip4_type, broadcast_mac, frame_with, header_in}
 use Rattle.vn_packets.specs.Drops.{on_parts, lost, lost_if}
-use Rattle.vn_packets.specs.Errors.{Trouble, kind_of, code_of, quoted, icmp_answer, sent_or_dropped, answered_back, errored_from}
+use Rattle.vn_packets.specs.Errors.{Trouble, error_about, icmp_answer, sent_or_dropped, answered_back, errored_from}
 use Rattle.vn_packets.specs.Output.{WayOf, Nowhere, Looped, By, way_to, identified, looped, output_refusals, sent_along, next_datagram, output_left, output_sent, output}
 use Rattle.vn_packets.specs.Weighing.{HasOneLink, HasOneEntry, Weighs}
 use Rattle.vn_packets.specs.Weight.{message_weight, body_weight, datagram_weight, datagrams_weight, parts_weight, scene_weight}
@@ -42,12 +42,12 @@ module _ {N : Type 0} (same : N → N → Bool) where
   sent_datagram-weighs h to datagram s one =
       weighs-more same s (sent_datagram same h to datagram s) (le_of_eq (datagram-frame to (mac_of same h s) datagram)) (sent-weighs same h (frame_with to (mac_of same h s) ip4_type datagram) s one)
 
-  released-weighs : (h : N) (to : Mac) (datagrams : List (List ℕ)) (s : SceneOf N) → HasOneLink same s → Weighs same (datagrams_weight datagrams) s (released same h to datagrams s)
-  unfolding released
-  released-weighs h to [] s one = weighs-refl same s
-  released-weighs h to (datagram ∷ more) s one =
-      weighs-more same s (released same h to more next) (le_of_eq (sym (weigh-cons datagram_weight datagram more)))
-      (weighs-then same s next (released same h to more next) first (released-weighs h to more next (one-link same s next first one)))
+  sent_datagrams-weighs : (h : N) (to : Mac) (datagrams : List (List ℕ)) (s : SceneOf N) → HasOneLink same s → Weighs same (datagrams_weight datagrams) s (sent_datagrams same h to datagrams s)
+  unfolding sent_datagrams
+  sent_datagrams-weighs h to [] s one = weighs-refl same s
+  sent_datagrams-weighs h to (datagram ∷ more) s one =
+      weighs-more same s (sent_datagrams same h to more next) (le_of_eq (sym (weigh-cons datagram_weight datagram more)))
+      (weighs-then same s next (sent_datagrams same h to more next) first (sent_datagrams-weighs h to more next (one-link same s next first one)))
     where
       next : SceneOf N
       next = sent_datagram same h to datagram s
@@ -92,10 +92,10 @@ module _ {N : Type 0} (same : N → N → Bool) where
   }
     where
       given : SceneOf N
-      given = released same h packet.sha (waiting same h packet s) (learnt same common h packet s)
+      given = sent_datagrams same h packet.sha (waiting same h packet s) (learnt same common h packet s)
 
       sending : Weighs same (datagrams_weight (waiting same h packet s)) (learnt same common h packet s) given
-      sending = released-weighs h packet.sha (waiting same h packet s) (learnt same common h packet s) one
+      sending = sent_datagrams-weighs h packet.sha (waiting same h packet s) (learnt same common h packet s) one
 
       reply-most : (b c : Bool) (t : SceneOf N) → HasOneLink same t → Weighs same (cond c 1 0) t (replied_if same (b && c) h packet t)
       reply-most true true t one' = weighs-more same t (replied_if same true h packet t) (le_of_eq (reply-one packet.sha (mac_of same h t) packet)) (sent-weighs same h (arp_frame packet.sha (reply (mac_of same h t) packet)) t one')
@@ -126,12 +126,10 @@ module _ {N : Type 0} (same : N → N → Bool) where
     output_left-weighs : (k : ℕ) (send : Outgoing) → datagram_weight (next_datagram same send s.parts) ≤ k → Weighs same (k + 2) s (output_left same common send s)
     unfolding output_left
     output_left-weighs k send most =
+        let out = output_left same common send s in
         weighs-more same s out (omega (arith, most))
         (weighs-then same s (on_parts identified s) out (on_parts-weighs same {k = 0} identified s (let e = identified-weight s.parts in omega (arith, e)))
         (sent_along-weighs (way_to send.dst s.parts) common (next_datagram same send s.parts) (on_parts identified s) one entry))
-      where
-        out : SceneOf N
-        out = sent_along same (way_to send.dst s.parts) common (next_datagram same send s.parts) (on_parts identified s)
 
     pub answered_back-weighs : (from to : Ip4) (message : List ℕ) → Weighs same (256 + message_weight (slice_get message 0) + 2) s (answered_back same common (icmp_answer from to message) s)
     unfolding answered_back output
@@ -145,8 +143,8 @@ module _ {N : Type 0} (same : N → N → Bool) where
     pub errored_from-weighs : (from : Option Ip4) (trouble : Trouble) (datagram : List ℕ) → Weighs same 259 s (errored_from same from common trouble datagram s)
     errored_from-weighs None trouble datagram = weighs-more same s s (omega arith) (weighs-refl same s)
     errored_from-weighs (Some from) trouble datagram =
-        weighs-more same s (errored_from same (Some from) common trouble datagram s) (let small = error-one trouble (quoted datagram) in omega (arith, small))
-        (answered_back-weighs from (header_in datagram).src (error_octets (kind_of trouble) (code_of trouble) (quoted datagram)))
+        weighs-more same s (errored_from same (Some from) common trouble datagram s) (let small = error-one trouble datagram in omega (arith, small))
+        (answered_back-weighs from (header_in datagram).src (error_about trouble datagram))
 
 -- an error is sent about what weighs enough
 pub answerable : (is_broadcast : Bool) (proto : ℕ) (body : List ℕ) → may_answer is_broadcast proto body ≡ true → 261 ≤ body_weight proto body

@@ -7,7 +7,6 @@ use Rattle.vn_rules.specs.Renamed.{renamed}
 use Rattle.vn_rules.specs.Rules.{Common, done}
 use Rattle.vn_rules.specs.Scenes.{SceneOf, renamed_scene}
 use Rattle.vn_rules.proofs.PingLaws.{awaiting-renamed}
-use Rattle.vn_packets.specs.declared.outgoing.Outgoing.{Outgoing}
 use Rattle.vn_packets.specs.declared.outgoing.SentOf.{SentOf}
 use Rattle.vn_packets.specs.Drops.{on_parts}
 use Rattle.vn_packets.specs.Output.{output_left, output_refusals, output_sent}
@@ -24,19 +23,16 @@ module _ {N M : Type 0} (r : N → M) where
 
 module _ {N M : Type 0} (r : N → M) (at_n : N → N → Bool) (at_m : M → M → Bool) (faithful : (a b : N) → at_m (r a) (r b) ≡ at_n a b)
     (common : Common) (ip : Ip4) (ttl : Option ℕ) (s : SceneOf N) where
-  abbrev send : Outgoing
-  send = request_to ip ttl s.parts
-
-  send-so : request_to ip ttl (renamed_scene r s).parts ≡ send
+  send-so : request_to ip ttl (renamed_scene r s).parts ≡ request_to ip ttl s.parts
   unfolding renamed_scene renamed
   send-so = refl
 
-  how-so : output_sent at_m send (renamed_scene r s).parts ≡ as_sent r (output_sent at_n send s.parts)
+  how-so : output_sent at_m (request_to ip ttl s.parts) (renamed_scene r s).parts ≡ as_sent r (output_sent at_n (request_to ip ttl s.parts) s.parts)
   unfolding renamed_scene
-  how-so = output_sent-renamed r at_n at_m faithful send s.parts
+  how-so = output_sent-renamed r at_n at_m faithful (request_to ip ttl s.parts) s.parts
 
   abbrev how : SentOf N
-  how = output_sent at_n send s.parts
+  how = output_sent at_n (request_to ip ttl s.parts) s.parts
 
   awaited-so : (t : SceneOf N) → on_parts (awaiting common.clock how.src ip (as_sent r how).out) (renamed_scene r t) ≡ renamed_scene r (on_parts (awaiting common.clock how.src ip how.out) t)
   awaited-so t = on_parts-renamed r (awaiting common.clock how.src ip how.out) (awaiting common.clock how.src ip (as_sent r how).out) t (awaiting-renamed r common.clock how.src ip how.out t.parts)
@@ -45,12 +41,12 @@ module _ {N M : Type 0} (r : N → M) (at_n : N → N → Bool) (at_m : M → M 
   unfolding pinged
   pinged-renamed =
       ap (λ out. on_parts (awaiting common.clock (output_sent at_m out (renamed_scene r s).parts).src ip (output_sent at_m out (renamed_scene r s).parts).out) (output_left at_m common out (renamed_scene r s))) send-so
-      ∙ ap₂ (λ (went : SentOf M) t. on_parts (awaiting common.clock went.src ip went.out) t) how-so (output_left-renamed r at_n at_m faithful common send s)
-      ∙ awaited-so (output_left at_n common send s)
+      ∙ ap₂ (λ (went : SentOf M) t. on_parts (awaiting common.clock went.src ip went.out) t) how-so (output_left-renamed r at_n at_m faithful common (request_to ip ttl s.parts) s)
+      ∙ awaited-so (output_left at_n common (request_to ip ttl s.parts) s)
 
   pub ping_rule-renamed : ping_rule at_m common ttl ip (renamed_scene r s) ≡ as_rule r (ping_rule at_n common ttl ip s)
   unfolding ping_rule
   ping_rule-renamed = λ i. record {
-    refusals = (ap (λ out. output_refusals at_m errno.HostUnreach out (renamed_scene r s)) send-so ∙ output_refusals-renamed r at_n at_m faithful errno.HostUnreach send s) i;
+    refusals = (ap (λ out. output_refusals at_m errno.HostUnreach out (renamed_scene r s)) send-so ∙ output_refusals-renamed r at_n at_m faithful errno.HostUnreach (request_to ip ttl s.parts) s) i;
     otherwise = done (pinged-renamed i);
   }

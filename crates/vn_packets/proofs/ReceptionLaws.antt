@@ -22,8 +22,8 @@ use Rattle.vn_packets.specs.Datagrams.{ip4_type, arp_type, broadcast_mac, udp_pr
 use Rattle.vn_packets.specs.Drops.{on_parts, lost}
 use Rattle.vn_packets.specs.Errors.{ProtocolUnreachable, errored}
 use Rattle.vn_packets.specs.Forwarding.{forwarded}
-use Rattle.vn_packets.specs.Icmp.{unheard, icmp_received}
-use Rattle.vn_packets.specs.Reception.{mac_eq, is_dropped_at_once, kept, passed_on, taken, datagram_received, looped_back, loop_received, frame_taken, hears, frame_read, frame_received}
+use Rattle.vn_packets.specs.Icmp.{nothing_told, icmp_received}
+use Rattle.vn_packets.specs.Reception.{mac_eq, is_dropped_at_once, delivered_locally, passed_on, dispatched, datagram_received, looped_back, loop_received, frame_taken, accepts_frame, frame_read, frame_received}
 use Rattle.vn_packets.specs.Renamed.{as_heard}
 use Rattle.vn_packets.specs.Udp.{udp_received}
 use Rattle.vn_packets.proofs.DropLaws.{choice, on_parts-renamed, lost-renamed}
@@ -39,7 +39,7 @@ module _ {N M : Type 0} (r : N → M) (at_n : N → N → Bool) (at_m : M → M 
   dropped-so via octets s =
       ap₂ (λ half far. not (reads octets) || is_fragment (header_in octets)
       || ((half && (is_loopback (header_in octets).src || is_loopback (header_in octets).dst)) || is_no_host (header_in octets).src || far))
-      (is_half-renamed r via) (reach-so r at_n at_m faithful (header_in octets).dst s)
+      (is_half-renamed r via) (reach-so r (header_in octets).dst s)
 
   local-so : (ip : Ip4) (s : SceneOf N) → local ip (renamed_scene r s).parts.addresses ≡ local ip s.parts.addresses
   unfolding renamed_scene renamed
@@ -65,14 +65,14 @@ module _ {N M : Type 0} (r : N → M) (at_n : N → N → Bool) (at_m : M → M 
           ap (errored at_m common (as_if r via) ProtocolUnreachable datagram is_broadcast) (lost-renamed r tally.Ip 1 s)
           ∙ errored-renamed r at_n at_m faithful common via ProtocolUnreachable datagram is_broadcast (lost tally.Ip 1 s)
 
-      kept-renamed : kept at_m common (as_if r via) datagram is_broadcast (renamed_scene r s) ≡ as_heard r (kept at_n common via datagram is_broadcast s)
-      unfolding kept
-      kept-renamed =
+      delivered_locally-renamed : delivered_locally at_m common (as_if r via) datagram is_broadcast (renamed_scene r s) ≡ as_heard r (delivered_locally at_n common via datagram is_broadcast s)
+      unfolding delivered_locally
+      delivered_locally-renamed =
           choice (as_heard r) (icmp_received at_n common datagram s)
-          (cond for_udp (unheard (udp_received at_n common via datagram is_broadcast s)) (unheard (errored at_n common via ProtocolUnreachable datagram is_broadcast (lost tally.Ip 1 s))))
+          (cond for_udp (nothing_told (udp_received at_n common via datagram is_broadcast s)) (nothing_told (errored at_n common via ProtocolUnreachable datagram is_broadcast (lost tally.Ip 1 s))))
           {b = for_icmp} refl (icmp_received-renamed r at_n at_m faithful common datagram s)
-          (choice (as_heard r) (unheard (udp_received at_n common via datagram is_broadcast s)) (unheard (errored at_n common via ProtocolUnreachable datagram is_broadcast (lost tally.Ip 1 s)))
-          {b = for_udp} refl (ap unheard (udp_received-renamed r at_n at_m faithful common via datagram is_broadcast s)) (ap unheard strange-renamed))
+          (choice (as_heard r) (nothing_told (udp_received at_n common via datagram is_broadcast s)) (nothing_told (errored at_n common via ProtocolUnreachable datagram is_broadcast (lost tally.Ip 1 s)))
+          {b = for_udp} refl (ap nothing_told (udp_received-renamed r at_n at_m faithful common via datagram is_broadcast s)) (ap nothing_told strange-renamed))
 
       passed_on-renamed : passed_on at_m common (as_if r via) datagram is_broadcast (renamed_scene r s) ≡ renamed_scene r (passed_on at_n common via datagram is_broadcast s)
       unfolding passed_on
@@ -80,17 +80,17 @@ module _ {N M : Type 0} (r : N → M) (at_n : N → N → Bool) (at_m : M → M 
           choice (renamed_scene r) (forwarded at_n common via datagram is_broadcast s) (lost tally.Ip 1 s)
           (ap₂ ◌&&◌ (is_half-renamed r via) (forwarding-so s)) (forwarded-renamed r at_n at_m faithful common via datagram is_broadcast s) (lost-renamed r tally.Ip 1 s)
 
-      taken-renamed : taken at_m common (as_if r via) datagram is_broadcast (renamed_scene r s) ≡ as_heard r (taken at_n common via datagram is_broadcast s)
-      taken-renamed =
-          choice (as_heard r) (kept at_n common via datagram is_broadcast s) (unheard (passed_on at_n common via datagram is_broadcast s))
-          (local-so (header_in datagram).dst s) kept-renamed (ap unheard passed_on-renamed)
+      dispatched-renamed : dispatched at_m common (as_if r via) datagram is_broadcast (renamed_scene r s) ≡ as_heard r (dispatched at_n common via datagram is_broadcast s)
+      dispatched-renamed =
+          choice (as_heard r) (delivered_locally at_n common via datagram is_broadcast s) (nothing_told (passed_on at_n common via datagram is_broadcast s))
+          (local-so (header_in datagram).dst s) delivered_locally-renamed (ap nothing_told passed_on-renamed)
 
     pub datagram_received-renamed : (octets : List ℕ) (is_broadcast : Bool) (s : SceneOf N)
         → datagram_received at_m common (as_if r via) octets is_broadcast (renamed_scene r s) ≡ as_heard r (datagram_received at_n common via octets is_broadcast s)
     unfolding datagram_received
     datagram_received-renamed octets is_broadcast s =
-        choice (as_heard r) (unheard (lost tally.Ip 1 s)) (taken at_n common via (whole octets) is_broadcast s)
-        (dropped-so via octets s) (ap unheard (lost-renamed r tally.Ip 1 s)) (taken-renamed (whole octets) is_broadcast s)
+        choice (as_heard r) (nothing_told (lost tally.Ip 1 s)) (dispatched at_n common via (whole octets) is_broadcast s)
+        (dropped-so via octets s) (ap nothing_told (lost-renamed r tally.Ip 1 s)) (dispatched-renamed (whole octets) is_broadcast s)
 
   -- ---- through lo0
 
@@ -121,16 +121,16 @@ module _ {N M : Type 0} (r : N → M) (at_n : N → N → Bool) (at_m : M → M 
   module _ (common : Common) (h : N) where
     frame_taken-renamed : (frame : EthFrame) (s : SceneOf N) → frame_taken at_m common (r h) frame (renamed_scene r s) ≡ as_heard r (frame_taken at_n common h frame s)
     frame_taken-renamed frame s =
-        choice (as_heard r) (unheard (arp_received at_n common h frame.payload s))
-        (cond (frame.kind == ip4_type) (datagram_received at_n common (Half h) frame.payload (mac_eq frame.dst broadcast_mac) s) (unheard (lost tally.Link 1 s)))
-        {b = frame.kind == arp_type} refl (ap unheard (arp_received-renamed r at_n at_m faithful common h frame.payload s))
-        (choice (as_heard r) (datagram_received at_n common (Half h) frame.payload (mac_eq frame.dst broadcast_mac) s) (unheard (lost tally.Link 1 s))
-        {b = frame.kind == ip4_type} refl (datagram_received-renamed common (Half h) frame.payload (mac_eq frame.dst broadcast_mac) s) (ap unheard (lost-renamed r tally.Link 1 s)))
+        choice (as_heard r) (nothing_told (arp_received at_n common h frame.payload s))
+        (cond (frame.kind == ip4_type) (datagram_received at_n common (Half h) frame.payload (mac_eq frame.dst broadcast_mac) s) (nothing_told (lost tally.Link 1 s)))
+        {b = frame.kind == arp_type} refl (ap nothing_told (arp_received-renamed r at_n at_m faithful common h frame.payload s))
+        (choice (as_heard r) (datagram_received at_n common (Half h) frame.payload (mac_eq frame.dst broadcast_mac) s) (nothing_told (lost tally.Link 1 s))
+        {b = frame.kind == ip4_type} refl (datagram_received-renamed common (Half h) frame.payload (mac_eq frame.dst broadcast_mac) s) (ap nothing_told (lost-renamed r tally.Link 1 s)))
 
     frame_read-renamed : (l : LinkOf N) (read : Result EthFrame EthBad) (s : SceneOf N) → frame_read at_m (as_link r l) common (r h) read (renamed_scene r s) ≡ as_heard r (frame_read at_n l common h read s)
-    frame_read-renamed l (Err bad) s = ap unheard (lost-renamed r tally.Link 1 s)
+    frame_read-renamed l (Err bad) s = ap nothing_told (lost-renamed r tally.Link 1 s)
     frame_read-renamed l (Ok frame) s =
-        choice (as_heard r) (frame_taken at_n common h frame s) (unheard (lost tally.Link 1 s)) {b = hears l frame} refl (frame_taken-renamed frame s) (ap unheard (lost-renamed r tally.Link 1 s))
+        choice (as_heard r) (frame_taken at_n common h frame s) (nothing_told (lost tally.Link 1 s)) {b = accepts_frame l frame} refl (frame_taken-renamed frame s) (ap nothing_told (lost-renamed r tally.Link 1 s))
 
     pub frame_received-renamed : (octets : List ℕ) (s : SceneOf N) → frame_received at_m common (r h) octets (renamed_scene r s) ≡ as_heard r (frame_received at_n common h octets s)
     unfolding frame_received

@@ -31,8 +31,8 @@ use Rattle.vn_packets.specs.Datagrams.{ip4_type, arp_type, broadcast_mac, udp_pr
 use Rattle.vn_packets.specs.Drops.{on_parts, lost}
 use Rattle.vn_packets.specs.Errors.{ProtocolUnreachable, icmp_answer}
 use Rattle.vn_packets.specs.Forwarding.{forwarded}
-use Rattle.vn_packets.specs.Icmp.{HeardOf, Meaning, Asks, Replies, Fails, Refuses, Strange, unheard, meaning_of, echoed, icmp_meant, icmp_read, icmp_received}
-use Rattle.vn_packets.specs.Reception.{mac_eq, is_dropped_at_once, unsupported, kept, passed_on, taken, datagram_received, looped_back, loop_received, frame_taken, hears, frame_read, frame_received}
+use Rattle.vn_packets.specs.Icmp.{HeardOf, Meaning, Asks, Replies, Fails, Refuses, Strange, nothing_told, meaning_of, echoed, icmp_meant, icmp_read, icmp_received}
+use Rattle.vn_packets.specs.Reception.{mac_eq, is_dropped_at_once, unsupported, delivered_locally, passed_on, dispatched, datagram_received, looped_back, loop_received, frame_taken, accepts_frame, frame_read, frame_received}
 use Rattle.vn_packets.specs.Udp.{udp_received}
 use Rattle.vn_packets.proofs.SceneSound.{Keeps, keeps-refl, keeps-then, keeps-either, parts-sound, on_parts-keeps, lost-keeps}
 use Rattle.vn_packets.proofs.ArpPacketSound.{arp_received-keeps}
@@ -81,13 +81,13 @@ module _ {N : Type 0} (same : N → N → Bool) (decides : (a b : N) → Decides
   -- ---- datagrams that came by an interface which stands there
 
   module _ (common : Common) (via : IfOf N) (s : SceneOf N) (sound : is_sound_scene same s ≡ true) (among : is_among same s.parts.interfaces via ≡ true) where
-    kept-keeps : (datagram : List ℕ) (is_broadcast : Bool) → Keeps same s (kept same common via datagram is_broadcast s).left
-    unfolding kept
-    kept-keeps datagram is_broadcast =
+    delivered_locally-keeps : (datagram : List ℕ) (is_broadcast : Bool) → Keeps same s (delivered_locally same common via datagram is_broadcast s).left
+    unfolding delivered_locally
+    delivered_locally-keeps datagram is_broadcast =
         heard-either same s (icmp_received same common datagram s)
-        (cond ((header_in datagram).proto == udp_protocol) (unheard (udp_received same common via datagram is_broadcast s)) (unheard (unsupported same common via datagram is_broadcast s)))
+        (cond ((header_in datagram).proto == udp_protocol) (nothing_told (udp_received same common via datagram is_broadcast s)) (nothing_told (unsupported same common via datagram is_broadcast s)))
         ((header_in datagram).proto == icmp_protocol) (icmp_received-keeps common datagram s sound)
-        (heard-either same s (unheard (udp_received same common via datagram is_broadcast s)) (unheard (unsupported same common via datagram is_broadcast s)) ((header_in datagram).proto == udp_protocol)
+        (heard-either same s (nothing_told (udp_received same common via datagram is_broadcast s)) (nothing_told (unsupported same common via datagram is_broadcast s)) ((header_in datagram).proto == udp_protocol)
         (udp_received-keeps same decides common via datagram is_broadcast s sound among)
         (keeps-then same s (lost tally.Ip 1 s) (unsupported same common via datagram is_broadcast s) (lost-keeps same tally.Ip 1 s sound) (errored-keeps same decides common via ProtocolUnreachable datagram is_broadcast (lost tally.Ip 1 s))))
 
@@ -97,16 +97,16 @@ module _ {N : Type 0} (same : N → N → Bool) (decides : (a b : N) → Decides
         keeps-either same s (forwarded same common via datagram is_broadcast s) (lost tally.Ip 1 s) (is_half via && is_forwarding s.parts.variables)
         (forwarded-keeps same decides common via datagram is_broadcast s sound) (lost-keeps same tally.Ip 1 s sound)
 
-    taken-keeps : (datagram : List ℕ) (is_broadcast : Bool) → Keeps same s (taken same common via datagram is_broadcast s).left
-    taken-keeps datagram is_broadcast =
-        heard-either same s (kept same common via datagram is_broadcast s) (unheard (passed_on same common via datagram is_broadcast s)) (local (header_in datagram).dst s.parts.addresses)
-        (kept-keeps datagram is_broadcast) (passed_on-keeps datagram is_broadcast)
+    dispatched-keeps : (datagram : List ℕ) (is_broadcast : Bool) → Keeps same s (dispatched same common via datagram is_broadcast s).left
+    dispatched-keeps datagram is_broadcast =
+        heard-either same s (delivered_locally same common via datagram is_broadcast s) (nothing_told (passed_on same common via datagram is_broadcast s)) (local (header_in datagram).dst s.parts.addresses)
+        (delivered_locally-keeps datagram is_broadcast) (passed_on-keeps datagram is_broadcast)
 
     pub datagram_received-keeps : (octets : List ℕ) (is_broadcast : Bool) → Keeps same s (datagram_received same common via octets is_broadcast s).left
     unfolding datagram_received
     datagram_received-keeps octets is_broadcast =
-        heard-either same s (unheard (lost tally.Ip 1 s)) (taken same common via (whole octets) is_broadcast s) (is_dropped_at_once via octets s.parts)
-        (lost-keeps same tally.Ip 1 s sound) (taken-keeps (whole octets) is_broadcast)
+        heard-either same s (nothing_told (lost tally.Ip 1 s)) (dispatched same common via (whole octets) is_broadcast s) (is_dropped_at_once via octets s.parts)
+        (lost-keeps same tally.Ip 1 s sound) (dispatched-keeps (whole octets) is_broadcast)
 
   -- ---- through lo0
 
@@ -143,16 +143,16 @@ module _ {N : Type 0} (same : N → N → Bool) (decides : (a b : N) → Decides
   module _ (common : Common) (h : N) (s : SceneOf N) (sound : is_sound_scene same s ≡ true) (among : is_among same s.parts.interfaces (Half h) ≡ true) where
     frame_taken-keeps : (frame : EthFrame) → Keeps same s (frame_taken same common h frame s).left
     frame_taken-keeps frame =
-        heard-either same s (unheard (arp_received same common h frame.payload s))
-        (cond (frame.kind == ip4_type) (datagram_received same common (Half h) frame.payload (mac_eq frame.dst broadcast_mac) s) (unheard (lost tally.Link 1 s)))
+        heard-either same s (nothing_told (arp_received same common h frame.payload s))
+        (cond (frame.kind == ip4_type) (datagram_received same common (Half h) frame.payload (mac_eq frame.dst broadcast_mac) s) (nothing_told (lost tally.Link 1 s)))
         (frame.kind == arp_type) (arp_received-keeps same decides common h s sound among frame.payload)
-        (heard-either same s (datagram_received same common (Half h) frame.payload (mac_eq frame.dst broadcast_mac) s) (unheard (lost tally.Link 1 s)) (frame.kind == ip4_type)
+        (heard-either same s (datagram_received same common (Half h) frame.payload (mac_eq frame.dst broadcast_mac) s) (nothing_told (lost tally.Link 1 s)) (frame.kind == ip4_type)
         (datagram_received-keeps common (Half h) s sound among frame.payload (mac_eq frame.dst broadcast_mac)) (lost-keeps same tally.Link 1 s sound))
 
     frame_read-keeps : (l : LinkOf N) (read : Result EthFrame EthBad) → Keeps same s (frame_read same l common h read s).left
     frame_read-keeps l (Err bad) = lost-keeps same tally.Link 1 s sound
     frame_read-keeps l (Ok frame) =
-        heard-either same s (frame_taken same common h frame s) (unheard (lost tally.Link 1 s)) (hears l frame) (frame_taken-keeps frame) (lost-keeps same tally.Link 1 s sound)
+        heard-either same s (frame_taken same common h frame s) (nothing_told (lost tally.Link 1 s)) (accepts_frame l frame) (frame_taken-keeps frame) (lost-keeps same tally.Link 1 s sound)
 
     pub frame_received-keeps : (octets : List ℕ) → Keeps same s (frame_received same common h octets s).left
     unfolding frame_received

@@ -1,6 +1,6 @@
 -- What comes makes a stack's scene lighter, together with the frame or the datagram that was taken.
 use Rattle.std.proofs.Common.{◌≡◌, ℕ, ◌+◌, ◌-◌, ◌≤◌, nat_lt, Bool, true, false, cond, not, ◌&&◌, ◌||◌, ◌==◌, List, [], ◌∷◌, map, sum, length, drop, None, Result, Ok, Err, is_none, refl, sym, ap, subst, ◌∙◌, arith}
-use Rattle.std.proofs.lemmas.Bool.{or_parts, eqb-true}
+use Rattle.std.proofs.lemmas.Bool.{or_parts, not-false, eqb-true}
 use Rattle.vn_types.proofs.RefusalLaws.{value-given}
 use Rattle.vn_types.specs.declared.interface.IfOf.{IfOf}
 use Rattle.vn_types.specs.declared.interface.IfOf.TheVariants.{Lo0, Half}
@@ -25,8 +25,8 @@ use Rattle.vn_packets.specs.Datagrams.{ip4_type, arp_type, broadcast_mac, udp_pr
 use Rattle.vn_packets.specs.Drops.{on_parts, lost}
 use Rattle.vn_packets.specs.Errors.{ProtocolUnreachable}
 use Rattle.vn_packets.specs.Forwarding.{forwarded}
-use Rattle.vn_packets.specs.Icmp.{HeardOf, unheard, icmp_received}
-use Rattle.vn_packets.specs.Reception.{mac_eq, is_dropped_at_once, unsupported, kept, passed_on, taken, datagram_received, looped_back, loop_received, frame_taken, hears, frame_read, frame_received}
+use Rattle.vn_packets.specs.Icmp.{HeardOf, nothing_told, icmp_received}
+use Rattle.vn_packets.specs.Reception.{mac_eq, is_dropped_at_once, unsupported, delivered_locally, passed_on, dispatched, datagram_received, looped_back, loop_received, frame_taken, accepts_frame, frame_read, frame_received}
 use Rattle.vn_packets.specs.Udp.{udp_received}
 use Rattle.vn_packets.specs.Weighing.{HasOneLink, HasOneEntry, Weighs}
 use Rattle.vn_packets.specs.Weight.{datagram_weight, is_request, packet_weight, payload_weight, frame_weight, parts_weight, scene_weight}
@@ -53,12 +53,12 @@ module _ {N : Type 0} (same : N → N → Bool) where
       unfolding header_in
       is-proto n is = eqb-true (header_of datagram).proto n is
 
-      kept-weighs : Weighs same (whole_weight datagram - 1) s (kept same common via datagram is_broadcast s).left
-      unfolding kept
-      kept-weighs =
-          heard-by s (icmp_received same common datagram s) (cond ((header_in datagram).proto == udp_protocol) (unheard (udp_received same common via datagram is_broadcast s)) (unheard (unsupported same common via datagram is_broadcast s)))
+      delivered_locally-weighs : Weighs same (whole_weight datagram - 1) s (delivered_locally same common via datagram is_broadcast s).left
+      unfolding delivered_locally
+      delivered_locally-weighs =
+          heard-by s (icmp_received same common datagram s) (cond ((header_in datagram).proto == udp_protocol) (nothing_told (udp_received same common via datagram is_broadcast s)) (nothing_told (unsupported same common via datagram is_broadcast s)))
           ((header_in datagram).proto == icmp_protocol) (λ is. icmp_received-weighs same common s one entry datagram (is-proto icmp_protocol is))
-          (λ _. heard-weighs s (unheard (udp_received same common via datagram is_broadcast s)) (unheard (unsupported same common via datagram is_broadcast s)) ((header_in datagram).proto == udp_protocol)
+          (λ _. heard-weighs s (nothing_told (udp_received same common via datagram is_broadcast s)) (nothing_told (unsupported same common via datagram is_broadcast s)) ((header_in datagram).proto == udp_protocol)
           (udp_received-weighs same common s one entry via datagram is_broadcast) (errored-weighs same common s one entry via datagram is_broadcast ProtocolUnreachable tally.Ip))
 
       passed_on-weighs : Weighs same (whole_weight datagram - 1) s (passed_on same common via datagram is_broadcast s)
@@ -67,25 +67,21 @@ module _ {N : Type 0} (same : N → N → Bool) where
           weighs-either same s (forwarded same common via datagram is_broadcast s) (lost tally.Ip 1 s) (is_half via && is_forwarding s.parts.variables)
           (forwarded-weighs same common s one entry via datagram is_broadcast header fits) (dropped same s (lost tally.Ip 1 s) (lost-weighs same tally.Ip 1 s))
 
-      taken-weighs : Weighs same (whole_weight datagram - 1) s (taken same common via datagram is_broadcast s).left
-      taken-weighs =
-          heard-weighs s (kept same common via datagram is_broadcast s) (unheard (passed_on same common via datagram is_broadcast s)) (local (header_in datagram).dst s.parts.addresses) kept-weighs passed_on-weighs
+      dispatched-weighs : Weighs same (whole_weight datagram - 1) s (dispatched same common via datagram is_broadcast s).left
+      dispatched-weighs =
+          heard-weighs s (delivered_locally same common via datagram is_broadcast s) (nothing_told (passed_on same common via datagram is_broadcast s)) (local (header_in datagram).dst s.parts.addresses) delivered_locally-weighs passed_on-weighs
 
     reading : (octets : List ℕ) → is_dropped_at_once via octets s.parts ≡ false → reads octets ≡ true
-    reading octets is = positive (reads octets) (or_parts (not (reads octets)) _ (or_parts (not (reads octets) || is_fragment (header_in octets)) _ is).0).0
-      where
-        positive : (b : Bool) → not b ≡ false → b ≡ true
-        positive true is = refl
-        positive false is = absurd (cc)
+    reading octets is = not-false (reads octets) (or_parts (not (reads octets)) _ (or_parts (not (reads octets) || is_fragment (header_in octets)) _ is).0).0
 
     pub datagram_received-weighs : (octets : List ℕ) → Weighs same (datagram_weight octets - 1) s (datagram_received same common via octets is_broadcast s).left
     unfolding datagram_received
     datagram_received-weighs octets =
-        heard-by s (unheard (lost tally.Ip 1 s)) (taken same common via (whole octets) is_broadcast s) (is_dropped_at_once via octets s.parts)
+        heard-by s (nothing_told (lost tally.Ip 1 s)) (dispatched same common via (whole octets) is_broadcast s) (is_dropped_at_once via octets s.parts)
         (λ is. dropped same s (lost tally.Ip 1 s) (lost-weighs same tally.Ip 1 s))
         (λ is. let r = reading octets is in
         let h = whole-header octets r in
-        weighs-more same s (taken same common via (whole octets) is_broadcast s).left (let e = whole-weight octets r in omega (arith, e)) (taken-weighs (whole octets) h.0 h.1))
+        weighs-more same s (dispatched same common via (whole octets) is_broadcast s).left (let e = whole-weight octets r in omega (arith, e)) (dispatched-weighs (whole octets) h.0 h.1))
 
   -- ---- through lo0
 
@@ -129,10 +125,10 @@ module _ {N : Type 0} (same : N → N → Bool) where
 
     frame_taken-weighs : (frame : EthFrame) → Weighs same (payload_weight frame.kind frame.payload - 1) s (frame_taken same common h frame s).left
     frame_taken-weighs frame =
-        heard-by s (unheard (arp_received same common h frame.payload s))
-        (cond (frame.kind == ip4_type) (datagram_received same common (Half h) frame.payload (mac_eq frame.dst broadcast_mac) s) (unheard (lost tally.Link 1 s))) (frame.kind == arp_type)
+        heard-by s (nothing_told (arp_received same common h frame.payload s))
+        (cond (frame.kind == ip4_type) (datagram_received same common (Half h) frame.payload (mac_eq frame.dst broadcast_mac) s) (nothing_told (lost tally.Link 1 s))) (frame.kind == arp_type)
         (λ is. weighs-more same s (arp_received same common h frame.payload s) (let w : payload_weight frame.kind frame.payload ≡ packet_weight frame.payload = ap (λ k. payload_weight k frame.payload) (eqb-true frame.kind arp_type is) in omega (arith, w)) (arp_received-weighs frame.payload))
-        (λ _. heard-by s (datagram_received same common (Half h) frame.payload (mac_eq frame.dst broadcast_mac) s) (unheard (lost tally.Link 1 s)) (frame.kind == ip4_type)
+        (λ _. heard-by s (datagram_received same common (Half h) frame.payload (mac_eq frame.dst broadcast_mac) s) (nothing_told (lost tally.Link 1 s)) (frame.kind == ip4_type)
         (λ is. weighs-more same s (datagram_received same common (Half h) frame.payload (mac_eq frame.dst broadcast_mac) s).left
         (let w : payload_weight frame.kind frame.payload ≡ datagram_weight frame.payload = ap (λ k. payload_weight k frame.payload) (eqb-true frame.kind ip4_type is) in omega (arith, w))
         (datagram_received-weighs common (Half h) (mac_eq frame.dst broadcast_mac) s one entry frame.payload))
@@ -154,7 +150,7 @@ module _ {N : Type 0} (same : N → N → Bool) where
     frame_read-weighs : (octets : List ℕ) (l : LinkOf N) (read : Result EthFrame EthBad) → eth_of octets ≡ read → Weighs same (frame_weight octets - 1) s (frame_read same l common h read s).left
     frame_read-weighs octets l (Err bad) is = dropped same s (lost tally.Link 1 s) (lost-weighs same tally.Link 1 s)
     frame_read-weighs octets l (Ok frame) is =
-        heard-weighs s (frame_taken same common h frame s) (unheard (lost tally.Link 1 s)) (hears l frame)
+        heard-weighs s (frame_taken same common h frame s) (nothing_told (lost tally.Link 1 s)) (accepts_frame l frame)
         (weighs-more same s (frame_taken same common h frame s).left (let w = whole-frame octets frame is in omega (arith, w)) (frame_taken-weighs frame)) (dropped same s (lost tally.Link 1 s) (lost-weighs same tally.Link 1 s))
 
     -- a frame that was taken from its sender makes the scene lighter

@@ -9,11 +9,12 @@ use Rattle.vn_rules.specs.Scenes.{LinkOf, SceneOf, own_link, link_of, on_link, i
 use Rattle.vn_rules.specs.Soundness.{names_own, binds_locally, sends_locally, times_pings, gave_arms, owns_timers, times_arp, covers_arp, founds_routes, is_sound_parts}
 use Rattle.vn_rules.proofs.LinkLaws.{are_queues}
 use Rattle.vn_rules.proofs.ListTests.{all_map_kept}
+use Rattle.vn_rules.proofs.SoundFacts.{SoundFacts, facts_from_sound}
 use Rattle.vn_packets.specs.declared.tally.Tally.{Tally}
 use Rattle.vn_packets.specs.declared.tally.Tally.TheVariants.{Link, Full}
 use Rattle.vn_packets.specs.Drops.{on_parts, counted, lost, lost_if}
 pub use Rattle.vn_packets.specs.Keeping.{Keeps}
-use Rattle.vn_packets.specs.Links.{is_full, with_frame, queued, sent_by, sent}
+use Rattle.vn_packets.specs.Links.{is_link_full, with_frame, enqueued, sent_by, sent}
 use Rattle.vn_packets.specs.Output.{identified, looped}
 
 module _ {N : Type 0} (same : N → N → Bool) where
@@ -46,6 +47,9 @@ module _ {N : Type 0} (same : N → N → Bool) where
   unfolding is_sound_scene
   scene-sound s parts queues = and_from _ _ parts queues
 
+  pub sound_facts : (p : PartsOf N) → is_sound_parts same p ≡ true → SoundFacts same (times_arp same) p
+  sound_facts p sound = facts_from_sound same (times_arp same) p sound
+
   -- ---- its tables are changed
 
   pub on_parts-keeps : (f : PartsOf N → PartsOf N) (s : SceneOf N) → is_sound_parts same (f s.parts) ≡ true → (f s.parts).interfaces ≡ s.parts.interfaces
@@ -75,14 +79,14 @@ module _ {N : Type 0} (same : N → N → Bool) where
       le-leb (length (frames ++ frame ∷ [])) SENT_MAX (omega (arith, less, longer))
 
   with_frame-queue : (frame : List ℕ) (l : LinkOf N) → is_queue l.sent ≡ true → is_queue (with_frame frame l).sent ≡ true
-  with_frame-queue frame l short = by (is_full l) refl
+  with_frame-queue frame l short = by (is_link_full l) refl
     where
-      by : (b : Bool) → is_full l ≡ b → is_queue (cond b l (record l { sent = l.sent ++ frame ∷ [] })).sent ≡ true
+      by : (b : Bool) → is_link_full l ≡ b → is_queue (cond b l (record l { sent = l.sent ++ frame ∷ [] })).sent ≡ true
       by true is = short
       by false is = room frame l.sent is
 
-  queued-queues : (h : N) (frame : List ℕ) (links : List (LinkOf N)) → are_queues same links ≡ true → are_queues same (map (own_link same h (with_frame frame)) links) ≡ true
-  queued-queues h frame links short = all_map_kept (own_link same h (with_frame frame)) (λ (l : LinkOf N). is_queue l.sent) (λ (l : LinkOf N). is_queue l.sent) each links short
+  enqueued-queues : (h : N) (frame : List ℕ) (links : List (LinkOf N)) → are_queues same links ≡ true → are_queues same (map (own_link same h (with_frame frame)) links) ≡ true
+  enqueued-queues h frame links short = all_map_kept (own_link same h (with_frame frame)) (λ (l : LinkOf N). is_queue l.sent) (λ (l : LinkOf N). is_queue l.sent) each links short
     where
       each : (l : LinkOf N) → is_queue l.sent ≡ true → is_queue (own_link same h (with_frame frame) l).sent ≡ true
       each l is = by (same l.half h)
@@ -91,17 +95,17 @@ module _ {N : Type 0} (same : N → N → Bool) where
           by true = with_frame-queue frame l is
           by false = is
 
-  pub queued-keeps : (h : N) (frame : List ℕ) (s : SceneOf N) → is_sound_scene same s ≡ true → Keeps same s (queued same h frame s)
-  unfolding queued on_link
-  queued-keeps h frame s sound = record {
-    sound = scene-sound (record s { links = map (own_link same h (with_frame frame)) s.links }) (parts-sound s sound) (queued-queues h frame s.links (queues-short s sound));
+  pub enqueued-keeps : (h : N) (frame : List ℕ) (s : SceneOf N) → is_sound_scene same s ≡ true → Keeps same s (enqueued same h frame s)
+  unfolding enqueued on_link
+  enqueued-keeps h frame s sound = record {
+    sound = scene-sound (record s { links = map (own_link same h (with_frame frame)) s.links }) (parts-sound s sound) (enqueued-queues h frame s.links (queues-short s sound));
     interfaces = refl;
   }
 
   sent_by-keeps : (l : LinkOf N) (h : N) (frame : List ℕ) (s : SceneOf N) → is_sound_scene same s ≡ true → Keeps same s (sent_by same l h frame s)
   sent_by-keeps l h frame s sound =
-      keeps-either s (lost Link 1 s) (cond (is_full l) (lost Full 1 s) (queued same h frame s)) (not l.up) (lost-keeps Link 1 s sound)
-      (keeps-either s (lost Full 1 s) (queued same h frame s) (is_full l) (lost-keeps Full 1 s sound) (queued-keeps h frame s sound))
+      keeps-either s (lost Link 1 s) (cond (is_link_full l) (lost Full 1 s) (enqueued same h frame s)) (not l.up) (lost-keeps Link 1 s sound)
+      (keeps-either s (lost Full 1 s) (enqueued same h frame s) (is_link_full l) (lost-keeps Full 1 s sound) (enqueued-keeps h frame s sound))
 
   pub sent-keeps : (h : N) (frame : List ℕ) (s : SceneOf N) → is_sound_scene same s ≡ true → Keeps same s (sent same h frame s)
   unfolding sent

@@ -18,9 +18,10 @@ use Rattle.vn_rules.proofs.ListTests.{count_map_same}
 use Rattle.vn_packets.specs.declared.tally.Tally.{Tally}
 use Rattle.vn_packets.specs.declared.tally.Tally.TheVariants.{Link, Full}
 use Rattle.vn_packets.specs.Drops.{on_parts, counted, lost, lost_if}
-use Rattle.vn_packets.specs.Links.{is_full, with_frame, queued, sent_by, sent}
+use Rattle.vn_packets.specs.Links.{is_link_full, with_frame, enqueued, sent_by, sent}
 use Rattle.vn_packets.specs.Weighing.{HasOneLink, HasOneEntry, Weighs}
 use Rattle.vn_packets.specs.Weight.{datagram_weight, datagrams_weight, frame_weight, frames_weight, parts_weight, scene_weight}
+use Rattle.vn_packets.proofs.Counting.{none-cons, one-cons}
 
 -- ---- lists of things that weigh something
 
@@ -46,40 +47,24 @@ module _ {A : Type 0} (w : A → ℕ) where
     abbrev pub changed : List A → List A
     changed xs = map (λ x. cond (t x) (f x) x) xs
 
-    count-cons : (x : A) (xs : List A) → count_by t (x ∷ xs) ≡ cond {A = ℕ} (t x) 1 0 + count_by t xs
-    count-cons x xs = sum_by-cons (λ y. cond (t y) 1 0) x xs
-
     unchanged : (xs : List A) → count_by t xs ≡ 0 → all_weigh (changed xs) ≡ all_weigh xs
     unchanged [] none = refl
-    unchanged (x ∷ xs) none = weigh-cons (cond (t x) (f x) x) (changed xs) ∙ by (t x) (sym (count-cons x xs) ∙ none) (unchanged xs) ∙ sym (weigh-cons x xs)
-      where
-        clash : 1 + count_by t xs ≡ 0 → ⊥
-        clash e = omega arith
-
-        rest : 0 + count_by t xs ≡ 0 → count_by t xs ≡ 0
-        rest e = omega arith
-
-        by : (b : Bool) → cond {A = ℕ} b 1 0 + count_by t xs ≡ 0 → (count_by t xs ≡ 0 → all_weigh (changed xs) ≡ all_weigh xs) → w (cond b (f x) x) + all_weigh (changed xs) ≡ w x + all_weigh xs
-        by true e more = absurd (clash e)
-        by false e more = ap (λ n. w x + n) (more (rest e))
+    unchanged (x ∷ xs) none =
+        let parts = none-cons t x xs none in
+        weigh-cons (cond (t x) (f x) x) (changed xs) ∙ ap (λ b. w (cond b (f x) x) + all_weigh (changed xs)) parts.0 ∙ ap (λ n. w x + n) (unchanged xs parts.1) ∙ sym (weigh-cons x xs)
 
     -- one of them, or none, may weigh so much more
     pub changed-one : (c : ℕ) → ((x : A) → w (f x) ≤ w x + c) → (xs : List A) → count_by t xs ≤ 1 → all_weigh (changed xs) ≤ all_weigh xs + c
     changed-one c most [] one = omega arith
     changed-one c most (x ∷ xs) one =
-        let all = by (t x) (le_trans (le_of_eq (sym (count-cons x xs))) one) (unchanged xs) (changed-one c most xs) in
+        let parts = one-cons t x xs one in
+        let all = by (t x) (λ is. unchanged xs (parts.1 is)) (changed-one c most xs parts.0) in
         omega (arith, all, weigh-cons x xs, weigh-cons (cond (t x) (f x) x) (changed xs))
       where
-        none : 1 + count_by t xs ≤ 1 → count_by t xs ≡ 0
-        none e = omega arith
-
-        rest : 0 + count_by t xs ≤ 1 → count_by t xs ≤ 1
-        rest e = omega arith
-
-        by : (b : Bool) → cond {A = ℕ} b 1 0 + count_by t xs ≤ 1 → (count_by t xs ≡ 0 → all_weigh (changed xs) ≡ all_weigh xs) → (count_by t xs ≤ 1 → all_weigh (changed xs) ≤ all_weigh xs + c)
+        by : (b : Bool) → (b ≡ true → all_weigh (changed xs) ≡ all_weigh xs) → all_weigh (changed xs) ≤ all_weigh xs + c
             → w (cond b (f x) x) + all_weigh (changed xs) ≤ w x + all_weigh xs + c
-        by true e same more = let here = most x in let others = same (none e) in omega (arith, here, others)
-        by false e same more = let others = more (rest e) in omega (arith, others)
+        by true same more = let here = most x in let others = same refl in omega (arith, here, others)
+        by false same more = omega (arith, more)
 
     module _ (nothing : (x : A) → w (f x) ≡ 0) where
       lighter : (xs : List A) → all_weigh (changed xs) ≤ all_weigh xs
@@ -138,23 +123,23 @@ module _ {N : Type 0} (same : N → N → Bool) where
   -- ---- a half sends a frame
 
   with_frame-weight : (frame : List ℕ) (l : LinkOf N) → frames_weight (with_frame frame l).sent ≤ frames_weight l.sent + frame_weight frame
-  with_frame-weight frame l = by (is_full l)
+  with_frame-weight frame l = by (is_link_full l)
     where
       by : (b : Bool) → frames_weight (cond b l (record l { sent = l.sent ++ frame ∷ [] })).sent ≤ frames_weight l.sent + frame_weight frame
       by true = omega arith
       by false = le_of_eq (weigh-push frame_weight l.sent frame)
 
   own-half : (h g : N) (frame : List ℕ) (l : LinkOf N) → same (own_link same h (with_frame frame) l).half g ≡ same l.half g
-  own-half h g frame l = by (same l.half h) (is_full l)
+  own-half h g frame l = by (same l.half h) (is_link_full l)
     where
       by : (b c : Bool) → same (cond b (cond c l (record l { sent = l.sent ++ frame ∷ [] })) l).half g ≡ same l.half g
       by true true = refl
       by true false = refl
       by false c = refl
 
-  pub queued-weighs : (h : N) (frame : List ℕ) (s : SceneOf N) → HasOneLink same s → Weighs same (frame_weight frame) s (queued same h frame s)
-  unfolding queued on_link scene_weight
-  queued-weighs h frame s one =
+  pub enqueued-weighs : (h : N) (frame : List ℕ) (s : SceneOf N) → HasOneLink same s → Weighs same (frame_weight frame) s (enqueued same h frame s)
+  unfolding enqueued on_link scene_weight
+  enqueued-weighs h frame s one =
       let most = changed-one (λ (l : LinkOf N). frames_weight l.sent) (λ l. same l.half h) (with_frame frame) (frame_weight frame) (with_frame-weight frame) s.links (one h) in
       record {
         weight = omega (arith, most);
@@ -163,8 +148,8 @@ module _ {N : Type 0} (same : N → N → Bool) where
 
   sent_by-weighs : (l : LinkOf N) (h : N) (frame : List ℕ) (s : SceneOf N) → HasOneLink same s → Weighs same (frame_weight frame) s (sent_by same l h frame s)
   sent_by-weighs l h frame s one =
-      weighs-either s (lost Link 1 s) (cond (is_full l) (lost Full 1 s) (queued same h frame s)) (not l.up) (weighs-more s (lost Link 1 s) (omega arith) (lost-weighs Link 1 s))
-      (weighs-either s (lost Full 1 s) (queued same h frame s) (is_full l) (weighs-more s (lost Full 1 s) (omega arith) (lost-weighs Full 1 s)) (queued-weighs h frame s one))
+      weighs-either s (lost Link 1 s) (cond (is_link_full l) (lost Full 1 s) (enqueued same h frame s)) (not l.up) (weighs-more s (lost Link 1 s) (omega arith) (lost-weighs Link 1 s))
+      (weighs-either s (lost Full 1 s) (enqueued same h frame s) (is_link_full l) (weighs-more s (lost Full 1 s) (omega arith) (lost-weighs Full 1 s)) (enqueued-weighs h frame s one))
 
   pub sent-weighs : (h : N) (frame : List ℕ) (s : SceneOf N) → HasOneLink same s → Weighs same (frame_weight frame) s (sent same h frame s)
   unfolding sent

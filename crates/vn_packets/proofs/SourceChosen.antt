@@ -18,13 +18,13 @@ use Rattle.vn_rules.specs.declared.route.TargetOf.TheVariants.{Link, Gateway}
 use Rattle.vn_rules.specs.Addresses.{has_ip, is_address_of, local, reaches, source_for}
 use Rattle.vn_rules.specs.Networks.{network_of, lies_in}
 use Rattle.vn_rules.specs.Routes.{Routed, covers, covers_ip, is_link_on, lookup, IsLongest}
-use Rattle.vn_rules.specs.Soundness.{founds_routes, is_founded, is_sound_parts, times_arp}
+use Rattle.vn_rules.specs.Soundness.{founds_routes, is_founded, is_sound_parts}
 use Rattle.vn_rules.proofs.Kept.{any_weaker, from_any}
 use Rattle.vn_rules.proofs.RouteChoice.{lookup-longest}
-use Rattle.vn_rules.proofs.SoundFacts.{facts_from_sound}
 use Rattle.vn_packets.specs.ArpPackets.{unset_ip}
 use Rattle.vn_packets.specs.Output.{WayOf, Nowhere, Looped, By, way_along, way_to, source_by, chosen_source}
 use Rattle.vn_packets.proofs.OutputSound.{way-covered}
+use Rattle.vn_packets.proofs.SceneSound.{sound_facts}
 
 module _ {N : Type 0} where
   -- the address that is found first, where one is
@@ -58,7 +58,7 @@ module _ {N : Type 0} (same : N → N → Bool) (decides : (a b : N) → Decides
   unfolding covers founds_routes lies_in
   founded-source on ip covered =
       from_any (λ (e : Routed N). is_link_on same on e.1 && lies_in ip e.0) (is_founded same p) (list_any (reaches same on ip) p.addresses) p.routes by covered
-      (facts_from_sound same (times_arp same) p sound).founded
+      (sound_facts same p sound).founded
     where
       reached : (own : IfOf N) (to : Prefix) (a : AddrOf N) → own ≡ on → lies_in ip to ≡ true → is_address_of same own to a ≡ true → reaches same on ip a ≡ true
       reached own to a is lies of =

@@ -5,13 +5,13 @@ use Rattle.std.specs.BTreeMap.{is_at}
 use Rattle.std.specs.Cmp.{Equal-is, tied_itself}
 use Rattle.std.specs.List.{list_any, list_all, count_by, filter}
 use Rattle.std.specs.Map.{lookup, keys_of, remove_entry}
-use Rattle.std.specs.Option.{IfSome, unwrap_or}
+use Rattle.std.specs.Option.{IfSome}
 use Rattle.std.specs.Ordering.{nat_cmp, is_lt}
 use Rattle.std.proofs.lemmas.Bool.{and_parts, and_from, or_left, or_right, both_ways, false≢true, eqb-true, eq-eqb}
 use Rattle.std.proofs.lemmas.Cmp.{eq_by_cmp_equiv}
 use Rattle.std.proofs.lemmas.List.Elements.{All-contains, All-weaker, All-filter, All-contains_itself, Contains-append_right}
 use Rattle.std.proofs.lemmas.List.Folds.{list_any-from_Any}
-use Rattle.std.proofs.lemmas.List.Sums.{AllPass-from_list_all, list_all-from_AllPass, sum_by-cons}
+use Rattle.std.proofs.lemmas.List.Sums.{AllPass-from_list_all, list_all-from_AllPass}
 use Rattle.std.proofs.lemmas.Map.Keys.{IsDistinct-from_sorted}
 use Rattle.std.proofs.lemmas.Map.Lookups.{exact_pairs, exact_unsigned}
 use Rattle.std.proofs.lemmas.Map.Views.{lookup-from_Contains}
@@ -28,6 +28,7 @@ use Rattle.vn_rules.specs.Arp.{entry_of, is_entry_at, is_place, is_timer_where}
 use Rattle.vn_rules.specs.Orders.{are_rising, are_timers}
 use Rattle.vn_rules.specs.Pings.{is_timer_for, is_timed_by, is_armed_by, timed_by, without_pings, without_ping}
 use Rattle.vn_rules.specs.Resolution.{untimed}
+use Rattle.vn_rules.specs.Scenes.{SceneOf}
 use Rattle.vn_rules.specs.Soundness.{has_owner, owns_timers, times_arp, timers_wanted, is_sound_parts, is_sound_but}
 use Rattle.vn_rules.specs.Timers.{Turn, Timed, turn_cmp, earlier, earliest, is_due, next_due, without_timed}
 use Rattle.vn_rules.proofs.ArpFacts.{at_place, timers-there, no_timer-absent, has_own}
@@ -36,25 +37,12 @@ use Rattle.vn_rules.proofs.Kept.{any_weaker}
 use Rattle.vn_rules.proofs.ListTests.{absent-none, all_kept, find_all, find_passes}
 use Rattle.vn_rules.proofs.OrderLaws.{IsStrictlySortedBy-from_rising}
 use Rattle.vn_rules.proofs.PingRemoval.{without_pings-sound}
-use Rattle.vn_rules.proofs.SoundFacts.{SoundFacts, facts_from_sound}
 use Rattle.vn_rules.proofs.TimerOrder.{turn_cmp_total, Contains-first}
+use Rattle.vn_packets.specs.Drops.{on_parts}
+use Rattle.vn_packets.proofs.Counting.{count-cons, none_of_count}
+use Rattle.vn_packets.proofs.SceneSound.{sound_facts}
 
 -- ---- lists
-
--- what passes a test is counted
-pub none_of_count : {A : Type 0} (t : A → Bool) (xs : List A) → count_by t xs ≡ 0 → list_any t xs ≡ false
-none_of_count t [] zero = refl
-none_of_count t (x ∷ xs) zero = by (t x) (sym (sum_by-cons (λ y. cond (t y) 1 0) x xs) ∙ zero) (none_of_count t xs)
-  where
-    one : 1 + count_by t xs ≡ 0 → ⊥
-    one none = omega arith
-
-    rest : 0 + count_by t xs ≡ 0 → count_by t xs ≡ 0
-    rest none = omega arith
-
-    by : (b : Bool) → cond {A = ℕ} b 1 0 + count_by t xs ≡ 0 → (count_by t xs ≡ 0 → list_any t xs ≡ false) → b || list_any t xs ≡ false
-    by true none more = absurd (one none)
-    by false none more = more (rest none)
 
 module _ {K V : Type 0} (k : K → Bool) (t : K × V → Bool) where
   -- what is at the key passes the test
@@ -74,7 +62,7 @@ module _ {K V : Type 0} (k : K → Bool) (t : K × V → Bool) where
   removed_one [] all any one = absurd (false≢true any)
   removed_one (x ∷ es) all any one =
       let parts = and_parts (goes_with x) _ all in
-      by (k x.0) (t x) parts.0 any (sym (sum_by-cons (λ y. cond (t y) 1 0) x es) ∙ one) (removed_one es parts.1) (any_so es parts.1)
+      by (k x.0) (t x) parts.0 any (sym (count-cons t x es) ∙ one) (removed_one es parts.1) (any_so es parts.1)
     where
       none_left : 1 + count_by t es ≡ 1 → count_by t es ≡ 0
       none_left one = omega arith
@@ -103,6 +91,10 @@ module _ {K V : Type 0} (k : K → Bool) (f : K × V → Bool) where
       by false c is here more = ap (λ d. cond d (x ∷ filter f (remove_entry k es)) (filter f (remove_entry k es))) is ∙ ap (λ ys. cond c (x ∷ ys) ys) more
 
 -- ---- timers
+
+-- a scene without the timer that was due, if one was
+abbrev pub without_due : {N : Type 0} → Option (Timed N) → SceneOf N → SceneOf N
+without_due o s = on_parts (λ p. record p { timers = without_timed o p.timers }) s
 
 turn-exact : (a b : Turn) → is_at (turn_cmp a) b ≡ true → a ≡ b
 turn-exact a b at = exact_pairs nat_cmp nat_cmp exact_unsigned exact_unsigned a b ((Equal-is (turn_cmp a b)).0 at)
@@ -141,16 +133,13 @@ module _ {N : Type 0} where
         (IsDistinct-from_sorted turn_cmp (keys_of t.standing) (IsStrictlySortedBy-from_rising turn_cmp (keys_of t.standing) (and_parts (are_rising turn_cmp (keys_of t.standing)) _ right).0)) here
 
     pub one_turn : (f : Timed N) → Contains t.standing f → is_at (turn_cmp e.0) f.0 ≡ true → e ≡ f
-    one_turn f here at = λ i. (turn i, what i)
+    one_turn f here at = λ i. (turn i, some_same e.1 f.1 two i)
       where
         turn : e.0 ≡ f.0
         turn = turn-exact e.0 f.0 at
 
         two : Some e.1 ≡ Some f.1
         two = sym (found e stands) ∙ ap (λ a. lookup (is_at (turn_cmp a)) t.standing) turn ∙ found f here
-
-        what : e.1 ≡ f.1
-        what = ap (λ o. unwrap_or o e.1) two
 
     -- what it passes, each timer of its turn passes
     pub turn-passes : (test : Timed N → Bool) → test e ≡ true → list_all (λ f. not (is_at (turn_cmp e.0) f.0) || test f) t.standing ≡ true
@@ -171,12 +160,9 @@ module _ {N : Type 0} where
 -- ---- in a sound stack
 
 module _ {N : Type 0} (same : N → N → Bool) (decides : (a b : N) → Decides (same a b) (a ≡ b)) (p : PartsOf N) (sound : is_sound_parts same p ≡ true) (e : Timed N) (stands : Contains p.timers.standing e) where
-  facts : SoundFacts same (times_arp same) p
-  facts = facts_from_sound same (times_arp same) p sound
-
   owned : has_owner same p e ≡ true
   unfolding owns_timers
-  owned = All-contains (λ f. has_owner same p f ≡ true) p.timers.standing e (AllPass-from_list_all (has_owner same p) p.timers.standing facts.owned) stands
+  owned = All-contains (λ f. has_owner same p f ≡ true) p.timers.standing e (AllPass-from_list_all (has_owner same p) p.timers.standing (sound_facts same p sound).owned) stands
 
   -- the stack without the timer
   abbrev pub taken : PartsOf N
@@ -188,7 +174,7 @@ module _ {N : Type 0} (same : N → N → Bool) (decides : (a b : N) → Decides
     here = ap (is_timer_where (is_place same h ip)) is ∙ and_from _ _ ((decides h h).1 refl) (eq-eqb ip.0 ip.0 refl)
 
     some : list_any (at_place same decides h ip) p.timers.standing ≡ true
-    some = turn-stands p.timers facts.timers e stands (at_place same decides h ip) here
+    some = turn-stands p.timers (sound_facts same p sound).timers e stands (at_place same decides h ip) here
 
     one : count_by (at_place same decides h ip) p.timers.standing ≡ 1
     unfolding times_arp
@@ -204,18 +190,18 @@ module _ {N : Type 0} (same : N → N → Bool) (decides : (a b : N) → Decides
         wanted Down count = count
 
         by : (o : Option (ArpEntryOf N)) → entry_of same h ip p.arp ≡ o → count_by (at_place same decides h ip) p.timers.standing ≡ 1
-        by None none = absurd (not_none (no_timer-absent same decides h ip p (absent-none (is_entry_at same h ip) p.arp none) facts.owned))
+        by None none = absurd (not_none (no_timer-absent same decides h ip p (absent-none (is_entry_at same h ip) p.arp none) (sound_facts same p sound).owned))
         by (Some a) found =
             let there = find_passes (is_entry_at same h ip) p.arp a found in
             wanted a.state (sym (λ i. count_by (λ t. timers-there same decides h ip a there t i) p.timers.standing)
-            ∙ eqb-true _ _ (find_all (is_entry_at same h ip) (has_own same decides h ip p) p.arp a found facts.arp_timed))
+            ∙ eqb-true _ _ (find_all (is_entry_at same h ip) (has_own same decides h ip p) p.arp a found (sound_facts same p sound).arp_timed))
 
     pub taken-untimed : taken ≡ untimed same h ip p
     taken-untimed i = record p {
       timers = record p.timers {
         standing = removed_one (is_at (turn_cmp e.0)) (at_place same decides h ip) p.timers.standing
-            (turn-passes p.timers facts.timers e stands (at_place same decides h ip) here)
-            (turn-stands p.timers facts.timers e stands (λ f. is_at (turn_cmp e.0) f.0) (turn-itself e.0)) one i;
+            (turn-passes p.timers (sound_facts same p sound).timers e stands (at_place same decides h ip) here)
+            (turn-stands p.timers (sound_facts same p sound).timers e stands (λ f. is_at (turn_cmp e.0) f.0) (turn-itself e.0)) one i;
       };
     }
 
@@ -250,7 +236,7 @@ module _ {N : Type 0} (same : N → N → Bool) (decides : (a b : N) → Decides
       taken-gone i = record (without_ping ping p) {
         timers = record p.timers {
           standing = removed_before (is_at (turn_cmp e.0)) stays p.timers.standing
-              (turn-passes p.timers facts.timers e stands (λ f. not (stays f)) (ap (λ b. not (not b)) armed)) i;
+              (turn-passes p.timers (sound_facts same p sound).timers e stands (λ f. not (stays f)) (ap (λ b. not (not b)) armed)) i;
         };
       }
 

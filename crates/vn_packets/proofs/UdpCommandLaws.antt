@@ -16,18 +16,15 @@ use Rattle.vn_rules.proofs.SocketLaws.{after_connect-renamed, after_recv-renamed
 use Rattle.vn_packets.specs.declared.outgoing.Outgoing.{Outgoing}
 use Rattle.vn_packets.specs.ArpPackets.{unset_ip}
 use Rattle.vn_packets.specs.Datagrams.{udp_protocol}
-use Rattle.vn_packets.specs.Output.{chosen_source, may_not_reach, output_left, output_refusals}
+use Rattle.vn_packets.specs.Output.{chosen_source, output_left, output_refusals}
 use Rattle.vn_packets.specs.Renamed.{as_rule}
 use Rattle.vn_packets.specs.Udp.{udp_octets}
-use Rattle.vn_packets.specs.UdpCommands.{gram_text, nowhere, on_sockets, is_refused, answers_error, unless_refused, told_gram, recv_rule, source_to, connected_from, connect_rule, sent_from, is_given_bad, sending, send_rule}
+use Rattle.vn_packets.specs.UdpCommands.{gram_text, nowhere, on_sockets, is_refused, answers_error, unless_refused, told_gram, recv_rule, source_to, connected_from, connect_rule, sending_port, sent_from, is_given_bad, sending, send_rule}
 use Rattle.vn_packets.proofs.DropLaws.{choice}
-use Rattle.vn_packets.proofs.OutputLaws.{chosen_source-renamed, may_not_reach-renamed, output_left-renamed, output_refusals-renamed}
+use Rattle.vn_packets.proofs.OutputLaws.{chosen_source-renamed, reach-so, output_left-renamed, output_refusals-renamed}
 
 module _ {N M : Type 0} (r : N → M) where
-  abbrev renames : List (SocketOf N) → List (SocketOf M)
-  renames sockets = map (as_socket r) sockets
-
-  on_sockets-renamed : (f : List (SocketOf N) → List (SocketOf N)) (g : List (SocketOf M) → List (SocketOf M)) → ((sockets : List (SocketOf N)) → g (renames sockets) ≡ renames (f sockets))
+  on_sockets-renamed : (f : List (SocketOf N) → List (SocketOf N)) (g : List (SocketOf M) → List (SocketOf M)) → ((sockets : List (SocketOf N)) → g (map (as_socket r) sockets) ≡ map (as_socket r) (f sockets))
       → (s : SceneOf N) → on_sockets g (renamed_scene r s) ≡ renamed_scene r (on_sockets f s)
   unfolding renamed_scene renamed
   on_sockets-renamed f g same s i = record { parts = record (renamed r s.parts) { sockets = same s.parts.sockets i }; links = map (as_link r) s.links }
@@ -74,13 +71,9 @@ module _ {N M : Type 0} (r : N → M) where
     };
   })
 
-  reach-so : (ip : Ip4) (s : SceneOf N) → may_not_reach ip (renamed_scene r s).parts ≡ may_not_reach ip s.parts
-  unfolding renamed_scene
-  reach-so ip s = may_not_reach-renamed r ip s.parts
-
   -- ---- connect
 
-  connected_from-renamed : (name : List ℕ) (ip : Ip4) (port : ℕ) (source : Result Ip4 Errno) (sockets : List (SocketOf N)) → connected_from name ip port source (renames sockets) ≡ renames (connected_from name ip port source sockets)
+  connected_from-renamed : (name : List ℕ) (ip : Ip4) (port : ℕ) (source : Result Ip4 Errno) (sockets : List (SocketOf N)) → connected_from name ip port source (map (as_socket r) sockets) ≡ map (as_socket r) (connected_from name ip port source sockets)
   connected_from-renamed name ip port (Ok source) sockets = after_connect-renamed r name ip port source sockets
   connected_from-renamed name ip port (Err e) sockets = refl
 
@@ -94,7 +87,7 @@ module _ {N M : Type 0} (r : N → M) where
 
   given_bad-so : (to : Option (Ip4 × ℕ)) (s : SceneOf N) → is_given_bad to (renamed_scene r s).parts ≡ is_given_bad to s.parts
   given_bad-so None s = refl
-  given_bad-so (Some to) s = reach-so to.0 s
+  given_bad-so (Some to) s = reach-so r to.0 s
 
 module _ {N M : Type 0} (r : N → M) (at_n : N → N → Bool) (at_m : M → M → Bool) (faithful : (a b : N) → at_m (r a) (r b) ≡ at_n a b) where
   chosen-so : (ip : Ip4) (s : SceneOf N) → chosen_source at_m ip (renamed_scene r s).parts ≡ chosen_source at_n ip s.parts
@@ -146,14 +139,12 @@ module _ {N M : Type 0} (r : N → M) (at_n : N → N → Bool) (at_m : M → M 
         body = udp_octets (unwrap_or src unset_ip) port at octets (has_udp_checksum s.parts.variables);
       }) (chosen-so at.0 s)
 
-      abbrev port : ℕ
-      port = unwrap_or (port_at sock.ip sock s.parts.sockets) 0
-
       abbrev out : Outgoing
-      out = sent_from at_n sock port at octets s.parts
+      out = sent_from at_n sock (sending_port sock s) at octets s.parts
 
       sends-renamed : sending at_m common name octets to (Some (as_socket r sock)) (renamed_scene r s) ≡ as_rule r (sending at_n common name octets to (Some sock) s)
       sends-renamed =
+          let port = sending_port sock s in
           ap (λ o. let own = unwrap_or o 0 in sends own (sent_from at_m (as_socket r sock) own at octets (renamed_scene r s).parts)) port-so
           ∙ ap (sends port) (sent-so port)
           ∙ (λ i. record {

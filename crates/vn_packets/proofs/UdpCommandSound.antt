@@ -20,7 +20,7 @@ use Rattle.vn_rules.proofs.SocketKept.{after_connect-sound, after_sent-sound}
 use Rattle.vn_rules.proofs.SocketQueues.{after_recv-sound, cleared-sound}
 use Rattle.vn_packets.specs.declared.outgoing.Outgoing.{Outgoing}
 use Rattle.vn_packets.specs.Output.{chosen_source, may_not_reach, output_left, output_refusals}
-use Rattle.vn_packets.specs.UdpCommands.{nowhere, on_sockets, is_refused, answers_error, unless_refused, recv_rule, source_to, connected_from, connect_rule, sent_from, is_given_bad, sending, send_rule}
+use Rattle.vn_packets.specs.UdpCommands.{nowhere, on_sockets, is_refused, answers_error, unless_refused, recv_rule, source_to, connected_from, connect_rule, sending_port, sent_from, is_given_bad, sending, send_rule}
 use Rattle.vn_packets.proofs.OutputSound.{output_left-keeps}
 use Rattle.vn_packets.proofs.OutputUntouched.{output_left-sockets}
 use Rattle.vn_packets.proofs.SceneSound.{Keeps, keeps-refl, keeps-then, parts-sound, on_parts-keeps}
@@ -81,17 +81,14 @@ module _ {N : Type 0} (same : N → N → Bool) (decides : (a b : N) → Decides
 
   module _ (common : Common) (name octets : List ℕ) (to : Option (Ip4 × ℕ)) where
     module _ (sock : SocketOf N) (named : socket_named name s.parts.sockets ≡ Some sock) where
-      abbrev port : ℕ
-      port = unwrap_or (port_at sock.ip sock s.parts.sockets) 0
-
       abbrev out : Outgoing
-      out = sent_from same sock port (unwrap_or (destination to sock) nowhere) octets s.parts
+      out = sent_from same sock (sending_port sock s) (unwrap_or (destination to sock) nowhere) octets s.parts
 
       abbrev left : SceneOf N
       left = output_left same common out s
 
       -- a port is found where none of the conditions holds
-      port-found : first_refusal (send_refusals name to (is_given_bad to s.parts) s.parts.sockets) ≡ None → port_at sock.ip sock s.parts.sockets ≡ Some port
+      port-found : first_refusal (send_refusals name to (is_given_bad to s.parts) s.parts.sockets) ≡ None → port_at sock.ip sock s.parts.sockets ≡ Some (sending_port sock s)
       port-found none =
           let open' = open_from_none _ name s.parts.sockets none in
           let it : open'.it ≡ sock = some_same open'.it sock (sym open'.is ∙ named) in
@@ -101,8 +98,9 @@ module _ {N : Type 0} (same : N → N → Bool) (decides : (a b : N) → Decides
           found None is = absurd (cc)
           found (Some p) is = refl
 
-      sends-keeps : first_refusal (send_refusals name to (is_given_bad to s.parts) s.parts.sockets ++ output_refusals same errno.NetUnreach out s) ≡ None → Keeps same s (on_sockets (after_sent name port) left)
+      sends-keeps : first_refusal (send_refusals name to (is_given_bad to s.parts) s.parts.sockets ++ output_refusals same errno.NetUnreach out s) ≡ None → Keeps same s (on_sockets (after_sent name (sending_port sock s)) left)
       sends-keeps none =
+          let port = sending_port sock s in
           let passed = both-pass (send_refusals name to (is_given_bad to s.parts) s.parts.sockets) (output_refusals same errno.NetUnreach out s) none in
           keeps-then same s left (on_sockets (after_sent name port) left) (output_left-keeps same decides common errno.NetUnreach out s sound passed.1)
           (λ is. on_sockets-keeps same left is (after_sent name port)

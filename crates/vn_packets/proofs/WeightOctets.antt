@@ -18,7 +18,7 @@ use Rattle.vn_link.specs.Frames.{eth_header}
 use Rattle.vn_link.specs.Packets.{arp_octets, arp_refusal, packet_of}
 use Rattle.vn_packets.specs.ArpPackets.{request_op, reply, arp_frame}
 use Rattle.vn_packets.specs.Datagrams.{ip4_type, arp_type, frame_with, datagram_with, message_octets, error_octets, reads, whole, body_of}
-use Rattle.vn_packets.specs.Errors.{Trouble, HostUnreachable, ProtocolUnreachable, PortUnreachable, TimeExceeded, kind_of, code_of, icmp_answer}
+use Rattle.vn_packets.specs.Errors.{Trouble, HostUnreachable, ProtocolUnreachable, PortUnreachable, TimeExceeded, error_about, icmp_answer}
 use Rattle.vn_packets.specs.Weight.{message_weight, body_weight, datagram_weight, is_request, packet_weight, frame_weight}
 
 -- ---- frames
@@ -222,12 +222,12 @@ answer-weight id src from to message =
     bounded (datagram_with id src (icmp_answer from to message)) (256 + message_weight (slice_get message 0))
     (λ is. whole-most (datagram_with id src (icmp_answer from to message)) 20 64 1 is refl refl refl) (omega arith)
 
-pub error-one : (trouble : Trouble) (quoted : List ℕ) → message_weight (slice_get (error_octets (kind_of trouble) (code_of trouble) quoted) 0) ≡ 1
+pub error-one : (trouble : Trouble) (datagram : List ℕ) → message_weight (slice_get (error_about trouble datagram) 0) ≡ 1
 unfolding error_octets
-error-one HostUnreachable quoted = refl
-error-one ProtocolUnreachable quoted = refl
-error-one PortUnreachable quoted = refl
-error-one TimeExceeded quoted = refl
+error-one HostUnreachable datagram = refl
+error-one ProtocolUnreachable datagram = refl
+error-one PortUnreachable datagram = refl
+error-one TimeExceeded datagram = refl
 
 pub echo-reply : (id seq : ℕ) (rest : List ℕ) → message_weight (slice_get (message_octets (echo 0 id seq rest)) 0) ≡ 261
 unfolding message_octets

@@ -2,8 +2,6 @@
 use Rattle.std.proofs.Common.{◌≡◌, Bool, true}
 use Rattle.vn_rules.specs.Orders.{are_arp_entries}
 use Rattle.vn_rules.specs.Scenes.{SceneOf, is_sound_scene}
-use Rattle.vn_rules.specs.Soundness.{times_arp}
-use Rattle.vn_rules.proofs.SoundFacts.{facts_from_sound}
 use Rattle.vn_packets.specs.Laws.{KeepsNames, IsSameRenamed, TellsNames, StaysSound, LowersWeight, GrowsLittle}
 use Rattle.vn_packets.proofs.Apart.{one-entry}
 use Rattle.vn_packets.proofs.FiredLaws.{fired-renamed}
@@ -14,7 +12,7 @@ use Rattle.vn_packets.proofs.PacketGrowth.{output_left-grows, frame_received-gro
 use Rattle.vn_packets.proofs.ReceptionLaws.{frame_received-renamed, loop_received-renamed}
 use Rattle.vn_packets.proofs.ReceptionSound.{frame_received-keeps, loop_received-keeps}
 use Rattle.vn_packets.proofs.ReceptionWeight.{frame_received-lighter, loop_received-lighter}
-use Rattle.vn_packets.proofs.SceneSound.{parts-sound}
+use Rattle.vn_packets.proofs.SceneSound.{parts-sound, sound_facts}
 
 pub same_renamed : {N M : Type 0} (r : N → M) (at_n : N → N → Bool) (at_m : M → M → Bool) → KeepsNames r at_n at_m → IsSameRenamed r at_n at_m
 same_renamed r at_n at_m faithful = record {
@@ -39,7 +37,7 @@ lowers_weight same decides = record {
 }
 
 pub right-entries : {N : Type 0} (same : N → N → Bool) (s : SceneOf N) → is_sound_scene same s ≡ true → are_arp_entries s.parts.arp ≡ true
-right-entries same s sound = (facts_from_sound same (times_arp same) s.parts (parts-sound same s sound)).arp
+right-entries same s sound = (sound_facts same s.parts (parts-sound same s sound)).arp
 
 pub grows_little : {N : Type 0} (same : N → N → Bool) → GrowsLittle same
 grows_little same = record {

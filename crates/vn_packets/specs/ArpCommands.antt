@@ -7,7 +7,7 @@ use Rattle.vn_rules.specs.Resolution.{after_arp_set, static_refusals}
 use Rattle.vn_rules.specs.Routes.{gateway_half}
 use Rattle.vn_rules.specs.Rules.{Rule, done}
 use Rattle.vn_rules.specs.Scenes.{SceneOf}
-use Rattle.vn_packets.specs.ArpPackets.{released}
+use Rattle.vn_packets.specs.ArpPackets.{sent_datagrams}
 use Rattle.vn_packets.specs.Drops.{on_parts}
 
 module _ {N : Type 0} (same : N → N → Bool) where
@@ -15,7 +15,7 @@ module _ {N : Type 0} (same : N → N → Bool) where
   abbrev pub released_on : Option N → Ip4 → Mac → SceneOf N → SceneOf N → SceneOf N
   released_on None ip mac before s = s
   released_on (Some half) ip mac before s =
-      released same half mac (held_for same half ip before.parts.arp) s
+      sent_datagrams same half mac (held_for same half ip before.parts.arp) s
 
   -- arp -s: the hardware address of an address is set, and what was held for it is sent
   unfoldable pub arp_set_rule : Ip4 → Mac → SceneOf N → Rule (SceneOf N)

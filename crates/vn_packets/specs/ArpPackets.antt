@@ -82,10 +82,10 @@ module _ {N : Type 0} (same : N → N → Bool) where
   unfoldable pub sent_datagram : N → Mac → List ℕ → SceneOf N → SceneOf N
   sent_datagram h to datagram s = sent same h (frame_with to (mac_of h s) ip4_type datagram) s
 
-  -- those that waited for a station go out, in order
-  unfoldable pub released : N → Mac → List (List ℕ) → SceneOf N → SceneOf N
-  released h to [] s = s
-  released h to (datagram ∷ more) s = released h to more (sent_datagram h to datagram s)
+  -- datagrams go out by a half to a station, one after another
+  unfoldable pub sent_datagrams : N → Mac → List (List ℕ) → SceneOf N → SceneOf N
+  sent_datagrams h to [] s = s
+  sent_datagrams h to (datagram ∷ more) s = sent_datagrams h to more (sent_datagram h to datagram s)
 
   -- ---- a datagram waits
 
@@ -140,7 +140,7 @@ module _ {N : Type 0} (same : N → N → Bool) where
   unfoldable pub arp_heard : Common → N → ArpPacket → SceneOf N → SceneOf N
   arp_heard common h packet s =
       replied_if (is_target h packet s && (packet.op == request_op)) h packet
-      (released h packet.sha (waiting h packet s) (learnt common h packet s))
+      (sent_datagrams h packet.sha (waiting h packet s) (learnt common h packet s))
 
   -- what was read, or why nothing was
   abbrev pub arp_read : Common → N → Result ArpPacket ArpBad → SceneOf N → SceneOf N

@@ -29,19 +29,12 @@ pub data Trouble : Type 0 where
   -- time to live exceeded in transit, 11/0
   TimeExceeded : Trouble
 
--- the type of its message
-abbrev pub kind_of : Trouble → ℕ
-kind_of HostUnreachable = 3
-kind_of ProtocolUnreachable = 3
-kind_of PortUnreachable = 3
-kind_of TimeExceeded = 11
-
--- the code of its message
-abbrev pub code_of : Trouble → ℕ
-code_of HostUnreachable = 1
-code_of ProtocolUnreachable = 2
-code_of PortUnreachable = 3
-code_of TimeExceeded = 0
+-- the type and the code of its message
+abbrev pub kind_and_code : Trouble → ℕ × ℕ
+kind_and_code HostUnreachable = (3, 1)
+kind_and_code ProtocolUnreachable = (3, 2)
+kind_and_code PortUnreachable = (3, 3)
+kind_and_code TimeExceeded = (11, 0)
 
 -- whether the datagram had come to its destination, which tells of it then
 abbrev pub had_arrived : Trouble → Bool
@@ -53,6 +46,11 @@ had_arrived TimeExceeded = false
 -- RFC 792: "The internet header plus the first 64 bits of the original datagram's data."
 abbrev pub quoted : List ℕ → List ℕ
 quoted datagram = take (header_len datagram) datagram ++ take data_size (body_of datagram)
+
+-- its message about a datagram
+abbrev pub error_about : Trouble → List ℕ → List ℕ
+error_about trouble datagram =
+    error_octets (kind_and_code trouble).0 (kind_and_code trouble).1 (quoted datagram)
 
 -- an ICMP message that answers a datagram, from one address to another
 abbrev pub icmp_answer : Ip4 → Ip4 → List ℕ → Outgoing
@@ -82,9 +80,7 @@ module _ {N : Type 0} (same : N → N → Bool) where
   errored_from None common trouble datagram s = s
   errored_from (Some from) common trouble datagram s =
       answered_back common
-      (icmp_answer from (header_in datagram).src
-      (error_octets (kind_of trouble) (code_of trouble) (quoted datagram)))
-      s
+      (icmp_answer from (header_in datagram).src (error_about trouble datagram)) s
 
   -- an error about a datagram that came by an interface, in a broadcast frame or not, if one may be sent
   unfoldable pub errored : Common → IfOf N → Trouble → List ℕ → Bool → SceneOf N → SceneOf N

@@ -15,8 +15,8 @@ use Rattle.vn_packets.specs.Errors.{Trouble, HostUnreachable, TimeExceeded, erro
 use Rattle.vn_packets.specs.Output.{WayOf, Nowhere, Looped, By, way_to, sent_along}
 
 -- conditions in their order, each with the error that is sent, if one is
-abbrev Conditions : Type 0
-Conditions = List (Bool × Option Trouble)
+abbrev Troubles : Type 0
+Troubles = List (Bool × Option Trouble)
 
 module _ {N : Type 0} where
   -- which way it goes
@@ -25,19 +25,19 @@ module _ {N : Type 0} where
 
 module _ {N : Type 0} (same : N → N → Bool) where
   -- of what goes out by a half with that link, to a hop
-  abbrev pub half_troubles : N → LinkOf N → Ip4 → List (ArpEntryOf N) → Conditions
+  abbrev pub half_troubles : N → LinkOf N → Ip4 → List (ArpEntryOf N) → Troubles
   half_troubles h l hop entries =
       (not l.up, Some HostUnreachable) ∷ (is_down same h hop entries, Some HostUnreachable) ∷ []
 
   -- of what goes that way
-  abbrev pub way_troubles : WayOf N → SceneOf N → Conditions
+  abbrev pub way_troubles : WayOf N → SceneOf N → Troubles
   way_troubles Nowhere s = (true, Some HostUnreachable) ∷ []
   way_troubles Looped s = (true, None) ∷ []
   way_troubles (By h hop) s = half_troubles h (link_of same h s) hop s.parts.arp
 
   -- why it is not sent on. RFC 791, section 1.4: "If the time to live reaches zero before the internet datagram
   -- reaches its destination, the internet datagram is destroyed."
-  abbrev pub troubles : List ℕ → WayOf N → SceneOf N → Conditions
+  abbrev pub troubles : List ℕ → WayOf N → SceneOf N → Troubles
   troubles datagram way s = (nat_le (header_in datagram).ttl 1, Some TimeExceeded) ∷ way_troubles way s
 
   -- by what was found: it goes that way with its time to live one less, or it is dropped, with an error or

@@ -65,8 +65,8 @@ quoted_ports q = udp.header_of q.first
 
 module _ {N : Type 0} where
   -- nothing is told
-  abbrev pub unheard : SceneOf N → HeardOf N
-  unheard s = record { left = s; heard = Nothing }
+  abbrev pub nothing_told : SceneOf N → HeardOf N
+  nothing_told s = record { left = s; heard = Nothing }
 
   -- ---- what a message is
 
@@ -114,7 +114,7 @@ module _ {N : Type 0} (same : N → N → Bool) where
 
   -- by what a message is, with its datagram's header and the octets that it has
   abbrev pub icmp_meant : Common → Ip4Head → ℕ → Message → Meaning N → SceneOf N → HeardOf N
-  icmp_meant common head size m Asks s = unheard (echoed common head m s)
+  icmp_meant common head size m Asks s = nothing_told (echoed common head m s)
   icmp_meant common head size m (Replies ping) s = record {
     left = on_parts (without_ping ping) s;
     heard = Pong head.src m.id head.ttl size;
@@ -124,12 +124,12 @@ module _ {N : Type 0} (same : N → N → Bool) where
     heard = Fault m.kind m.code head.src ping.id;
   }
   icmp_meant common head size m (Refuses src sport dst dport) s =
-      unheard (on_parts (λ p. record p { sockets = refused_by src sport dst dport p.sockets }) s)
-  icmp_meant common head size m Strange s = unheard (lost tally.Icmp 1 s)
+      nothing_told (on_parts (λ p. record p { sockets = refused_by src sport dst dport p.sockets }) s)
+  icmp_meant common head size m Strange s = nothing_told (lost tally.Icmp 1 s)
 
   -- what was read, or why nothing was
   abbrev pub icmp_read : Common → Ip4Head → ℕ → Result Message IcmpBad → SceneOf N → HeardOf N
-  icmp_read common head size (Err bad) s = unheard (lost tally.Icmp 1 s)
+  icmp_read common head size (Err bad) s = nothing_told (lost tally.Icmp 1 s)
   icmp_read common head size (Ok m) s =
       icmp_meant common head size m (meaning_of m head.src s.parts) s
 

@@ -24,7 +24,7 @@ use Rattle.vn_packets.specs.declared.outgoing.TheConstants.{HALF_MTU, LO0_MTU}
 use Rattle.vn_packets.specs.ArpPackets.{unset_ip, carried}
 use Rattle.vn_packets.specs.Datagrams.{total_of, datagram_with}
 use Rattle.vn_packets.specs.Drops.{on_parts}
-use Rattle.vn_packets.specs.Links.{is_full}
+use Rattle.vn_packets.specs.Links.{is_link_full}
 
 -- where a datagram goes
 pub data WayOf (N : Type 0) : Type 0 where
@@ -100,7 +100,7 @@ module _ {N : Type 0} (same : N → N → Bool) where
       ∷ (is_loopback src || is_loopback send.dst, errno.AddrNotAvail)
       ∷ (nat_lt HALF_MTU (total_of send), errno.MsgSize)
       ∷ (is_down same h hop entries, errno.HostDown)
-      ∷ (is_some (hit same h hop entries) && is_full l, errno.NoBufs)
+      ∷ (is_some (hit same h hop entries) && is_link_full l, errno.NoBufs)
       ∷ []
 
   -- of what goes that way

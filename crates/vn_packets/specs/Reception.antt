@@ -20,7 +20,7 @@ use Rattle.vn_packets.specs.Datagrams.{ip4_type, arp_type, broadcast_mac, udp_pr
 use Rattle.vn_packets.specs.Drops.{on_parts, lost}
 use Rattle.vn_packets.specs.Errors.{ProtocolUnreachable, errored}
 use Rattle.vn_packets.specs.Forwarding.{forwarded}
-use Rattle.vn_packets.specs.Icmp.{HeardOf, unheard, icmp_received}
+use Rattle.vn_packets.specs.Icmp.{HeardOf, nothing_told, icmp_received}
 use Rattle.vn_packets.specs.Output.{may_not_reach}
 use Rattle.vn_packets.specs.Udp.{udp_received}
 
@@ -41,9 +41,9 @@ module _ {N : Type 0} where
   is_dropped_at_once via octets p =
       not (reads octets) || is_fragment (header_in octets) || is_misaddressed via (header_in octets) p
 
-  -- whether a half with that link hears a frame: it is up, and the frame is for it or for all
-  abbrev pub hears : LinkOf N → EthFrame → Bool
-  hears l frame = l.up && (mac_eq frame.dst l.mac || mac_eq frame.dst broadcast_mac)
+  -- whether a half with that link accepts a frame: it is up, and the frame is for it or for all
+  abbrev pub accepts_frame : LinkOf N → EthFrame → Bool
+  accepts_frame l frame = l.up && (mac_eq frame.dst l.mac || mac_eq frame.dst broadcast_mac)
 
 module _ {N : Type 0} (same : N → N → Bool) where
   -- ---- datagrams
@@ -55,12 +55,12 @@ module _ {N : Type 0} (same : N → N → Bool) where
       errored same common via ProtocolUnreachable datagram is_broadcast (lost tally.Ip 1 s)
 
   -- for an address of the stack: by its protocol
-  unfoldable pub kept : Common → IfOf N → List ℕ → Bool → SceneOf N → HeardOf N
-  kept common via datagram is_broadcast s =
+  unfoldable pub delivered_locally : Common → IfOf N → List ℕ → Bool → SceneOf N → HeardOf N
+  delivered_locally common via datagram is_broadcast s =
       if (header_in datagram).proto == icmp_protocol then icmp_received same common datagram s
       else (if (header_in datagram).proto == udp_protocol
-      then unheard (udp_received same common via datagram is_broadcast s)
-      else unheard (unsupported common via datagram is_broadcast s))
+      then nothing_told (udp_received same common via datagram is_broadcast s)
+      else nothing_told (unsupported common via datagram is_broadcast s))
 
   -- for others: what is looped goes no further, and a host sends nothing on (RFC 1122, section 3.2.1.3)
   unfoldable pub passed_on : Common → IfOf N → List ℕ → Bool → SceneOf N → SceneOf N
@@ -69,21 +69,21 @@ module _ {N : Type 0} (same : N → N → Bool) where
       then forwarded same common via datagram is_broadcast s else lost tally.Ip 1 s
 
   -- a whole datagram for the stack or for others
-  abbrev pub taken : Common → IfOf N → List ℕ → Bool → SceneOf N → HeardOf N
-  taken common via datagram is_broadcast s =
+  abbrev pub dispatched : Common → IfOf N → List ℕ → Bool → SceneOf N → HeardOf N
+  dispatched common via datagram is_broadcast s =
       if local (header_in datagram).dst s.parts.addresses
-      then kept common via datagram is_broadcast s
-      else unheard (passed_on common via datagram is_broadcast s)
+      then delivered_locally common via datagram is_broadcast s
+      else nothing_told (passed_on common via datagram is_broadcast s)
 
   -- octets that should be a datagram came by an interface, in a broadcast frame or not
   unfoldable pub datagram_received : Common → IfOf N → List ℕ → Bool → SceneOf N → HeardOf N
   datagram_received common via octets is_broadcast s =
-      if is_dropped_at_once via octets s.parts then unheard (lost tally.Ip 1 s)
-      else taken common via (whole octets) is_broadcast s
+      if is_dropped_at_once via octets s.parts then nothing_told (lost tally.Ip 1 s)
+      else dispatched common via (whole octets) is_broadcast s
 
   -- the first datagram that is on its way through lo0
   abbrev pub looped_back : List (List ℕ) → Common → SceneOf N → HeardOf N
-  looped_back [] common s = unheard s
+  looped_back [] common s = nothing_told s
   looped_back (datagram ∷ more) common s =
       datagram_received common Lo0 datagram false (on_parts (λ p. record p { loopback = more }) s)
 
@@ -96,16 +96,16 @@ module _ {N : Type 0} (same : N → N → Bool) where
   -- a frame for the half: by its type
   abbrev pub frame_taken : Common → N → EthFrame → SceneOf N → HeardOf N
   frame_taken common h frame s =
-      if frame.kind == arp_type then unheard (arp_received same common h frame.payload s)
+      if frame.kind == arp_type then nothing_told (arp_received same common h frame.payload s)
       else (if frame.kind == ip4_type
       then datagram_received common (Half h) frame.payload (mac_eq frame.dst broadcast_mac) s
-      else unheard (lost tally.Link 1 s))
+      else nothing_told (lost tally.Link 1 s))
 
   -- what was read, or why nothing was
   abbrev pub frame_read : LinkOf N → Common → N → Result EthFrame EthBad → SceneOf N → HeardOf N
-  frame_read l common h (Err bad) s = unheard (lost tally.Link 1 s)
+  frame_read l common h (Err bad) s = nothing_told (lost tally.Link 1 s)
   frame_read l common h (Ok frame) s =
-      if hears l frame then frame_taken common h frame s else unheard (lost tally.Link 1 s)
+      if accepts_frame l frame then frame_taken common h frame s else nothing_told (lost tally.Link 1 s)
 
   -- a frame that came to a half
   unfoldable pub frame_received : Common → N → List ℕ → SceneOf N → HeardOf N

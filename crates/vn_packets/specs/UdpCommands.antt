@@ -98,6 +98,10 @@ module _ {N : Type 0} where
   abbrev pub is_given_bad : Option (Ip4 × ℕ) → PartsOf N → Bool
   is_given_bad to p = option_map_or (λ (at : Ip4 × ℕ). may_not_reach at.0 p) to false
 
+  -- the port that a socket sends from: its own, or else a free one
+  abbrev pub sending_port : SocketOf N → SceneOf N → ℕ
+  sending_port sock s = unwrap_or (port_at sock.ip sock s.parts.sockets) 0
+
 module _ {N : Type 0} (same : N → N → Bool) where
   -- ---- connect
 
@@ -137,7 +141,7 @@ module _ {N : Type 0} (same : N → N → Bool) where
   sending common name octets to None s =
       record { refusals = send_refusals name to false s.parts.sockets; otherwise = done s }
   sending common name octets to (Some sock) s =
-      let port = unwrap_or (port_at sock.ip sock s.parts.sockets) 0 in
+      let port = sending_port sock s in
       let out = sent_from sock port (unwrap_or (destination to sock) nowhere) octets s.parts in
       record {
         refusals =

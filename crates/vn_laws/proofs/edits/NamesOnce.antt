@@ -1,10 +1,9 @@
 -- A name stands at most once in a stack, counted in its list.
-use Rattle.std.proofs.Common.{◌≡◌, ℕ, ◌+◌, ◌≤◌, ◌==◌, Bool, true, false, cond, ◌||◌, List, [], ◌∷◌, refl, sym, ap, ◌∙◌, subst, arith}
+use Rattle.std.proofs.Common.{◌≡◌, ℕ, ◌+◌, ◌≤◌, ◌==◌, Bool, true, false, ◌||◌, List, [], ◌∷◌, refl, sym, ap, ◌∙◌, subst, arith}
 use Rattle.std.specs.Prelude.{count_by}
 use Rattle.std.specs.List.{list_any}
 use Rattle.std.proofs.lemmas.Bool.{and_parts, or_right, true≢false}
 use Rattle.std.proofs.lemmas.Bool.Decides.{Decides-eqb}
-use Rattle.std.proofs.lemmas.List.Sums.{sum_by-cons}
 use Rattle.vn_types.specs.declared.half.Half.{Half}
 use Rattle.vn_types.specs.declared.interface.Side.{Side}
 use Rattle.vn_types.specs.declared.interface.IfOf.TheVariants.{Lo0, Half as OfHalf}
@@ -13,16 +12,14 @@ use Rattle.vn_types.proofs.InterfaceNames.{side_eq-Decides}
 use Rattle.vn_cells.specs.declared.world.World.{World}
 use Rattle.vn_cells.specs.world.Names.{Path, If, if_eq, key_of}
 use Rattle.vn_cells.specs.world.World.{stack_at, pair_at, is_alive, ifs_of}
-use Rattle.vn_cells.specs.keeping.Standing.{stands_at, times, times_listed}
+use Rattle.vn_cells.specs.keeping.Standing.{stands_at, times, times_listed, IsStanding}
 use Rattle.vn_cells.specs.keeping.Sound.{IsSound}
 use Rattle.vn_cells.specs.keeping.Clean.{has_name}
+use Rattle.vn_packets.proofs.Counting.{count-cons}
 use Rattle.vn_laws.proofs.pairs.Listed.{if_eq-refl, has-count}
 
 abbrev has : List If → If → Bool
 has ifs i = list_any (if_eq i) ifs
-
-count-cons : (test : If → Bool) (i : If) (ifs : List If) → count_by test (i ∷ ifs) ≡ times (test i) + count_by test ifs
-count-cons test i ifs = sum_by-cons (λ k. cond (test k) 1 0) i ifs
 
 module _ (unit : ℕ) (side : Side) where
   abbrev named : If → Bool
@@ -64,18 +61,19 @@ module _ (unit : ℕ) (side : Side) where
           omega arith
       by false e ih = omega arith
 
+-- an interface is listed at most once in a stack
+pub listed_once : (w : World) → IsStanding w → (p : Path) (i : If) → count_by (if_eq i) (ifs_of (stack_at w p)) ≤ 1
+listed_once w standing p i = subst (λ n. n ≤ 1) (sym (standing.listed p i)) (by i)
+  where
+    once : (b : Bool) → times b ≤ 1
+    once true = omega arith
+    once false = omega arith
+
+    by : (i : If) → times_listed w p i ≤ 1
+    by Lo0 = once (is_alive w p)
+    by (OfHalf h) = once (stands_at p h.side (pair_at w (key_of h)))
+
 module _ {w : World} (s : IsSound w) (p : Path) where
-  few : (i : If) → count_by (if_eq i) (ifs_of (stack_at w p)) ≤ 1
-  few i = subst (λ n. n ≤ 1) (sym (s.standing.listed p i)) (by i)
-    where
-      once : (b : Bool) → times b ≤ 1
-      once true = omega arith
-      once false = omega arith
-
-      by : (i : If) → times_listed w p i ≤ 1
-      by Lo0 = once (is_alive w p)
-      by (OfHalf h) = once (stands_at p h.side (pair_at w (key_of h)))
-
   -- a half is listed where it stands
   listed_there : (h : Half) → has (ifs_of (stack_at w p)) (OfHalf h) ≡ stands_at p h.side (pair_at w (key_of h))
   listed_there h = has-count (OfHalf h) (ifs_of (stack_at w p)) _ (s.standing.listed p (OfHalf h))
@@ -87,7 +85,7 @@ module _ {w : World} (s : IsSound w) (p : Path) where
   unlisted_stands h out = sym (listed_there h) ∙ out
 
   pub name_once : (unit : ℕ) (side : Side) → count_by (has_name unit side) (ifs_of (stack_at w p)) ≤ 1
-  name_once unit side = at_most_one unit side (ifs_of (stack_at w p)) few same
+  name_once unit side = at_most_one unit side (ifs_of (stack_at w p)) (listed_once w s.standing p) same
     where
       same : (i k : If) → has (ifs_of (stack_at w p)) i ≡ true → has (ifs_of (stack_at w p)) k ≡ true
           → has_name unit side i ≡ true → has_name unit side k ≡ true → i ≡ k

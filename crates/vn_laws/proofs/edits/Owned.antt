@@ -19,13 +19,14 @@ use Rattle.vn_cells.specs.declared.world.Live.{Live}
 use Rattle.vn_cells.specs.declared.world.Stack.{Stack}
 use Rattle.vn_cells.specs.declared.world.World.{World}
 use Rattle.vn_cells.specs.world.Names.{Path, Key, If, path_eq, if_eq, half_eq, key_of}
-use Rattle.vn_cells.specs.world.World.{stack_at, is_alive, ifs_in, ifs_of, live_map, on_parts, edit_live}
+use Rattle.vn_cells.specs.world.World.{stack_at, ifs_in, ifs_of, live_map, on_parts, edit_live}
 use Rattle.vn_cells.specs.commands.Pairs.{attached, detached, attach, detach}
 use Rattle.vn_cells.specs.sets.Sets.{in_stacks, in_pairs}
 use Rattle.vn_laws.specs.Relations.{Belongs, owns_ifs}
 use Rattle.vn_laws.proofs.edits.Cells.{stack_at-edit_live}
 use Rattle.vn_laws.proofs.edits.Names.{half_eq-Decides}
 use Rattle.vn_laws.proofs.edits.Shapes.{SameShape}
+use Rattle.vn_laws.proofs.edits.Standing.{SameAlive}
 
 -- ---- a set and its pairs
 
@@ -113,7 +114,7 @@ module _ (h : Half) where
 
 -- who lives lived before, and the halves that stand in the stacks of these paths are of the set's pairs
 pub record Owned (set : Cells) (test : Path → Bool) (v w : World) : Type 0 where
-  pub alive : (q : Path) → is_alive w q ≡ is_alive v q
+  pub alive : SameAlive v w
   pub of : (q : Path) → test q ≡ true → owns_ifs set (ifs_of (stack_at w q)) ≡ true
 
 module _ {set : Cells} {test : Path → Bool} {v w : World} (o : Owned set test v w) where

@@ -114,9 +114,13 @@ named-same {v} {w} n same = named-fewer n (record {
 
 -- ---- nothing dies or is born, and nothing moves
 
--- the same live, and each half stands where it stood and is listed as before
+-- the same live
+abbrev pub SameAlive : World → World → Type 0
+SameAlive v w = (p : Path) → is_alive w p ≡ is_alive v p
+
+-- and each half stands where it stood and is listed as before
 pub record SameStanding (v w : World) : Type 0 where
-  pub alive : (p : Path) → is_alive w p ≡ is_alive v p
+  pub alive : SameAlive v w
   pub ifs : (p : Path) → ifs_of (stack_at w p) ≡ ifs_of (stack_at v p)
   pub pairs : SamePlaces v w
   pub ordered : OrderedPairs v → OrderedPairs w

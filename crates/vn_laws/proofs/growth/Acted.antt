@@ -1,5 +1,5 @@
 -- What an event in one stack arms and counts, by any rule.
-use Rattle.std.proofs.Common.{◌≡◌, ℕ, ◌+◌, Bool, true, false, Option, Some, None, refl, ap, ◌∙◌}
+use Rattle.std.proofs.Common.{◌≡◌, Bool, true, false, Option, Some, None, refl, ap, ◌∙◌}
 use Rattle.std.specs.Prelude.{if◌then◌else◌}
 use Rattle.std.specs.Option.{option_map}
 use Rattle.vn_types.specs.declared.half.Half.{Half}
@@ -12,7 +12,7 @@ use Rattle.vn_cells.specs.world.Names.{Path, path_eq}
 use Rattle.vn_cells.specs.world.World.{common_of, stack_at, live_map}
 use Rattle.vn_cells.specs.machine.Local.{LocalRule, scene_in, here_at, live_after, halves_at, placed, placed_if, act_by}
 use Rattle.vn_laws.proofs.growth.Edits.{Counted, live_counted, counted-weaker, counted-shape}
-use Rattle.vn_laws.proofs.growth.Parts.{Numbers, numbers}
+use Rattle.vn_laws.proofs.growth.Numbers.{Numbers, numbers}
 use Rattle.vn_laws.proofs.local.Acted.{shape-told}
 use Rattle.vn_laws.proofs.local.Placed.{placed_stack}
 

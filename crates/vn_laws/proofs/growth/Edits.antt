@@ -13,7 +13,7 @@ use Rattle.vn_cells.specs.world.World.{stack_at, live_map, on_parts, edit_live, 
 use Rattle.vn_cells.specs.keeping.Standing.{passes}
 use Rattle.vn_laws.proofs.edits.Cells.{stack_at-edit_live}
 use Rattle.vn_laws.proofs.edits.Shapes.{SameShape}
-use Rattle.vn_laws.proofs.growth.Parts.{Numbers, numbers, Less, Falls}
+use Rattle.vn_laws.proofs.growth.Numbers.{Numbers, numbers, Less, Falls}
 
 -- whether the numbers of what lives pass the test
 abbrev pub live_counted : (Numbers → Bool) → Option Live → Bool

@@ -17,7 +17,7 @@ use Rattle.vn_cells.specs.commands.Removal.{lent_here, homed_at, sent_home, with
 use Rattle.vn_laws.proofs.edits.Shapes.{shape-edit_stack}
 use Rattle.vn_laws.proofs.growth.Edits.{Counted, live_counted, counted-on_parts, counted-shape}
 use Rattle.vn_laws.proofs.growth.Links.{counted-moved, counted-destroyed_pair}
-use Rattle.vn_laws.proofs.growth.Parts.{Numbers, numbers, Less, less-refl, Falls}
+use Rattle.vn_laws.proofs.growth.Numbers.{Numbers, numbers, Less, less-refl, Falls}
 use Rattle.vn_laws.proofs.jails.Counted.{recounted}
 use Rattle.vn_laws.proofs.jails.Created.{more, fresh, created_stack}
 use Rattle.vn_laws.proofs.jails.Killed.{killed_stack}

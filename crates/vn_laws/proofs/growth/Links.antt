@@ -10,7 +10,8 @@ use Rattle.vn_cells.specs.world.World.{pair_at}
 use Rattle.vn_cells.specs.commands.Pairs.{new_pair, attached, detached, attach, detach, made_pair, unmade, destroyed_pair, destroyed_by, with_mac_on, told_lowest}
 use Rattle.vn_cells.specs.commands.Moves.{moved, moved_on}
 use Rattle.vn_laws.proofs.growth.Edits.{Counted, counted-on_parts, counted-add_pair, counted-drop_pair, counted-each_pair}
-use Rattle.vn_laws.proofs.growth.Parts.{Numbers, Falls, attached-less, detached-less}
+use Rattle.vn_laws.proofs.growth.Numbers.{Numbers, Falls}
+use Rattle.vn_laws.proofs.growth.Parts.{attached-less, detached-less}
 
 module _ {test : Numbers → Bool} (falls : Falls test) where
   counted-attach : {v : World} → Counted test v → (h : Half) (p : Path) → Counted test (attach h p v)

@@ -1,6 +1,5 @@
 -- What each event in one stack arms and counts, by the machine's rules.
-use Rattle.std.proofs.Common.{◌≡◌, ◌≤◌, ℕ, ◌+◌, ◌*◌, Bool, true, false, List, Option, Some, None, refl, sym, ap, ◌∙◌, subst, arith}
-use Rattle.std.specs.Option.{option_map_or}
+use Rattle.std.proofs.Common.{◌≡◌, ◌≤◌, ℕ, ◌+◌, ◌*◌, true, false, List, Option, Some, None, refl, sym, ap, subst, arith}
 use Rattle.vn_types.specs.declared.address.Ip4.{Ip4}
 use Rattle.vn_types.specs.declared.half.Half.{Half}
 use Rattle.vn_types.specs.declared.interface.IfOf.TheVariants.{Lo0, Half as OfHalf}
@@ -11,7 +10,6 @@ use Rattle.vn_rules.specs.AddressCommands as tables
 use Rattle.vn_rules.specs.AddressCommands.{alias_rule, with_address}
 use Rattle.vn_rules.specs.Addresses.{address_of}
 use Rattle.vn_rules.specs.Arp.{without_entries}
-use Rattle.vn_rules.specs.LinkCommands.{set_up}
 use Rattle.vn_rules.specs.Orders.{are_arp_entries}
 use Rattle.vn_rules.specs.Purge.{dropped, without_found}
 use Rattle.vn_rules.specs.Resolution.{after_arp_delete}
@@ -26,9 +24,9 @@ use Rattle.vn_packets.specs.Fired.{fired}
 use Rattle.vn_packets.specs.Growth.{Grows}
 use Rattle.vn_packets.specs.Reception.{frame_received, loop_received}
 use Rattle.vn_packets.specs.Statistics.{stat_rule}
-use Rattle.vn_packets.specs.Tables.{on_tables}
 use Rattle.vn_packets.proofs.CommandGrowth.{addresses_of, announced_on-grows, arp_set_rule-grows, connect_rule-grows, ping_rule-grows, recv_rule-grows, send_rule-grows, up_rule-grows}
 use Rattle.vn_packets.proofs.PacketGrowth.{fired-grows, frame_received-grows, loop_received-grows}
+use Rattle.vn_packets.proofs.SceneGrowth.{counts-same}
 use Rattle.vn_packets.proofs.Whole.{right-entries}
 use Rattle.vn_cells.specs.declared.command.Command.{Command}
 use Rattle.vn_cells.specs.declared.command.Command.TheVariants as command
@@ -39,7 +37,8 @@ use Rattle.vn_cells.specs.world.Names.{Path, If, half_eq, half_name}
 use Rattle.vn_cells.specs.machine.Commands.{near_rule, named_in, payload_octets}
 use Rattle.vn_cells.specs.machine.Local.{Here, fired_in, heard_in, heard_where, hearing, local, near_answer}
 use Rattle.vn_laws.proofs.growth.Acted.{scene_counted}
-use Rattle.vn_laws.proofs.growth.Parts.{Numbers, numbers, on_halves, on_halves-more, on_one, held_few, is_small, small-more, small-raised, Raised, raised-grows, raised-less, raised-more, raised-then, Less, less-refl, without_addr-less}
+use Rattle.vn_laws.proofs.growth.Numbers.{numbers, held_few, is_small, small-more, small-raised, Raised, raised-grows, raised-less, raised-more, raised-then, Less, less-refl}
+use Rattle.vn_laws.proofs.growth.Parts.{on_halves-more, on_one, without_addr-less}
 use Rattle.vn_laws.proofs.local.Acted.{sound_scene}
 use Rattle.vn_laws.proofs.rule.Answers.{answered}
 
@@ -75,7 +74,7 @@ module _ (n : ℕ) where
       let held = on_halves-more a s.parts.addresses in
       raised-more (numbers s.parts) (numbers left.parts) (omega arith) (omega arith) (omega arith)
       (raised-then {k = 0} {a = 0} {c = 1} (numbers s.parts) (numbers given.parts) (numbers left.parts)
-      (record { timers = omega arith; link = omega arith; arp = omega arith; ip = omega arith; icmp = omega arith; udp = omega arith; full = omega arith; held = held })
+      (record { timers = omega arith; drops = counts-same s.parts.drops s.parts.drops refl; held = held })
       (raised-grows given.parts left.parts (announced_on-grows half_eq (Some on) ip given)))
 
   alias-little : (on : Option If) (ip : Ip4) (s : SceneOf Half) → first_refusal (alias_rule half_eq on ip s.parts).refusals ≡ None

@@ -20,7 +20,7 @@ use Rattle.vn_laws.proofs.Opening.{opening_stack, sound-opening}
 use Rattle.vn_laws.proofs.Steps.{fine-step}
 use Rattle.vn_laws.proofs.schedules.Clock.{clock_grows}
 use Rattle.vn_laws.proofs.growth.Edits.{Counted, live_counted}
-use Rattle.vn_laws.proofs.growth.Parts.{on_halves, is_small, none-small}
+use Rattle.vn_laws.proofs.growth.Numbers.{on_halves, is_small, none-small}
 use Rattle.vn_laws.proofs.growth.Steps.{small-step}
 
 -- what just opened is small after no event, and after any number

@@ -20,7 +20,7 @@ use Rattle.vn_laws.proofs.growth.Acted.{counted-act_by}
 use Rattle.vn_laws.proofs.growth.Edits.{Counted, counted-weaker, counted-shape, counted-each_pair}
 use Rattle.vn_laws.proofs.growth.Jails.{counted-created, counted-removed}
 use Rattle.vn_laws.proofs.growth.Links.{counted-made_pair, counted-lowest, counted-destroyed_by, counted-with_mac_on, counted-moved_on}
-use Rattle.vn_laws.proofs.growth.Parts.{Numbers, is_small, small-more, small-falls, none-small, Falls}
+use Rattle.vn_laws.proofs.growth.Numbers.{Numbers, is_small, small-more, small-falls, none-small, Falls}
 use Rattle.vn_laws.proofs.growth.Near.{counted-heard, counted-local}
 use Rattle.vn_laws.proofs.local.Acted.{scene-given}
 use Rattle.vn_laws.proofs.local.Delivered.{either_heard, sound-taken}

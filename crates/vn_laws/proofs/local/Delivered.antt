@@ -2,8 +2,8 @@
 use Rattle.std.proofs.Common.{◌≡◌, ℕ, Bool, true, false, ◌&&◌, List, [], ◌∷◌, drop, length, Option, Some, None, refl, sym, ap, ◌∙◌, subst, arith}
 use Rattle.std.specs.Prelude.{if◌then◌else◌, nat_le}
 use Rattle.std.specs.List.{list_all}
-use Rattle.std.specs.Option.{is_some, option_map, option_map_or}
-use Rattle.std.proofs.lemmas.Bool.{and_parts, and_from, true≢false}
+use Rattle.std.specs.Option.{is_some, option_map}
+use Rattle.std.proofs.lemmas.Bool.{and_parts, and_from}
 use Rattle.vn_types.specs.declared.half.Half.{Half}
 use Rattle.vn_types.specs.declared.interface.IfOf.TheVariants.{Lo0, Half as OfHalf}
 use Rattle.vn_types.specs.declared.interface.Side.{Side}
@@ -18,8 +18,6 @@ use Rattle.vn_packets.specs.Reception.{loop_received}
 use Rattle.vn_packets.proofs.FiredSound.{fired-keeps}
 use Rattle.vn_packets.proofs.ReceptionSound.{frame_received-keeps, loop_received-keeps}
 use Rattle.vn_cells.specs.declared.cell.Cells.{Cells}
-use Rattle.vn_cells.specs.declared.cell.CellName.{CellName}
-use Rattle.vn_cells.specs.declared.cell.CellName.TheVariants.{Stack as OfStack}
 use Rattle.vn_cells.specs.declared.event.Event.{Event}
 use Rattle.vn_cells.specs.declared.event.Event.TheVariants as event
 use Rattle.vn_cells.specs.declared.world.Pair.{Pair}

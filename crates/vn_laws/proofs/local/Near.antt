@@ -9,7 +9,6 @@ use Rattle.vn_types.specs.declared.interface.IfOf.TheVariants.{Lo0}
 use Rattle.vn_types.specs.Refusals.{first_refusal}
 use Rattle.vn_rules.specs.declared.parts.PartsOf.{PartsOf}
 use Rattle.vn_rules.specs.Interfaces.{is_among}
-use Rattle.vn_rules.specs.LinkCommands.{set_up}
 use Rattle.vn_rules.specs.Named.{interface_named}
 use Rattle.vn_rules.specs.Rules.{Common}
 use Rattle.vn_rules.specs.Scenes.{SceneOf, is_sound_scene}

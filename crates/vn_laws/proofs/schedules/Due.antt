@@ -1,5 +1,5 @@
 -- Where the least deadline of all has come, the timer of some stack is due.
-use Rattle.std.proofs.Common.{◌≡◌, ℕ, ◌<◌, ◌≤◌, Bool, true, false, cond, List, [], ◌∷◌, find, Option, Some, None, is_some, min, refl, ap, subst, ⊎_elim, arith}
+use Rattle.std.proofs.Common.{◌≡◌, ℕ, ◌<◌, ◌≤◌, Bool, true, false, cond, List, [], ◌∷◌, find, Option, Some, None, is_some, min, refl, ap, ⊎_elim, arith}
 use Rattle.std.specs.List.{filter, filter_map, cons_option}
 use Rattle.std.specs.Option.{option_map}
 use Rattle.std.specs.Ordering.{is_lt}
@@ -7,7 +7,7 @@ use Rattle.std.proofs.lemmas.Bool.{both_ways, le-leb, cases_lt}
 use Rattle.vn_types.proofs.Options.{none_some, some_same}
 use Rattle.vn_types.specs.declared.half.Half.{Half}
 use Rattle.vn_rules.specs.declared.timer.TimersOf.{TimersOf}
-use Rattle.vn_rules.specs.Timers.{turn_cmp, Timed, earlier, earliest, is_due, next_due, soonest, lesser, least}
+use Rattle.vn_rules.specs.Timers.{turn_cmp, Timed, earlier, earliest, is_due, soonest, lesser, least}
 use Rattle.vn_cells.specs.declared.world.Live.{Live}
 use Rattle.vn_cells.specs.declared.world.Stack.{Stack}
 use Rattle.vn_cells.specs.machine.Queues.{has_due}

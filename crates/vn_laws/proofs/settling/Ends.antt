@@ -1,20 +1,16 @@
 -- What the ends of pairs weigh that stand in one scene.
-use Rattle.std.proofs.Common.{◌≡◌, ℕ, zero, suc, ◌+◌, ◌≤◌, Bool, true, false, cond, not, ◌&&◌, ◌||◌, ◌==◌, List, [], ◌∷◌, map, sum, find, count_by, Option, Some, None, unwrap_or, refl, sym, ap, subst, ◌∙◌, arith, le_trans, le_of_eq}
-use Rattle.std.specs.List.{list_any, filter_map}
-use Rattle.std.specs.Option.{option_map, option_map_or}
-use Rattle.std.proofs.lemmas.Bool.{and_parts, and_from, or_parts, both_ways, false_from_ne_true}
-use Rattle.std.proofs.lemmas.List.Sums.{sum_by-cons}
+use Rattle.std.proofs.Common.{◌≡◌, ℕ, ◌+◌, ◌≤◌, Bool, true, false, cond, ◌||◌, List, [], ◌∷◌, find, count_by, Some, unwrap_or, refl, ap, ◌∙◌, arith, le_of_eq}
+use Rattle.std.proofs.lemmas.Bool.{both_ways}
 use Rattle.vn_types.specs.declared.half.Half.{Half}
-use Rattle.vn_types.specs.declared.interface.Side.{Side}
 use Rattle.vn_types.specs.declared.interface.Side.TheVariants.{A, B}
-use Rattle.vn_rules.specs.Scenes.{LinkOf, SceneOf, no_link, link_of}
+use Rattle.vn_rules.specs.Scenes.{LinkOf, no_link}
 use Rattle.vn_cells.specs.declared.world.End.{End}
 use Rattle.vn_cells.specs.declared.world.Pair.{Pair}
 use Rattle.vn_cells.specs.world.Names.{Key, half_eq, half_on, has_half}
 use Rattle.vn_packets.specs.Weight.{frames_weight}
+use Rattle.vn_packets.proofs.Counting.{count-cons, none_of_count}
 use Rattle.vn_packets.proofs.SceneWeight.{all_weigh, weigh-cons}
-use Rattle.vn_packets.proofs.TakenTimers.{none_of_count}
-use Rattle.vn_laws.proofs.edits.Names.{half_eq-Decides, half_eq-sym}
+use Rattle.vn_laws.proofs.edits.Names.{half_eq-Decides}
 use Rattle.vn_laws.proofs.settling.Sums.{all-same, all-zero, all-both, all-less, one-weighs}
 
 -- what ends weigh, by the half and what is kept of it
@@ -53,16 +49,13 @@ ends-same f g same es = all-same (in_pair f) (in_pair g) (λ e i. same (half_on 
 
 apart-rest : (h : Half) (halves : List Half) → AreApart (h ∷ halves) → AreApart halves
 apart-rest h halves apart g =
-    let whole : count_by (half_eq g) (h ∷ halves) ≡ cond {A = ℕ} (half_eq g h) 1 0 + count_by (half_eq g) halves = sum_by-cons (λ y. cond (half_eq g y) 1 0) h halves in
-    let most = apart g in
-    omega (arith, whole, most)
+    let most = apart g in omega (arith, count-cons (half_eq g) h halves, most)
 
 apart-first : (h : Half) (halves : List Half) → AreApart (h ∷ halves) → has_half halves h ≡ false
 apart-first h halves apart =
-    let whole : count_by (half_eq h) (h ∷ halves) ≡ cond {A = ℕ} (half_eq h h) 1 0 + count_by (half_eq h) halves = sum_by-cons (λ y. cond (half_eq h y) 1 0) h halves in
     let own : cond {A = ℕ} (half_eq h h) 1 0 ≡ 1 = ap (λ b. cond {A = ℕ} b 1 0) ((half_eq-Decides h h).1 refl) in
     let most = apart h in
-    none_of_count (half_eq h) halves (omega (arith, whole, own, most))
+    none_of_count (half_eq h) halves (omega (arith, count-cons (half_eq h) h halves, own, most))
 
 -- the ends of some halves are those of each
 pub ends-each : (halves : List Half) → AreApart halves → (f : Weights) (es : List (Key × Pair)) → ends_weigh (of_halves halves f) es ≡ all_weigh (λ h. ends_weigh (of_half h f) es) halves

@@ -1,24 +1,22 @@
 -- A scene that goes back changes a world's weight as it changed its own, and each delivery makes a world lighter.
-use Rattle.std.proofs.Common.{◌≡◌, ℕ, zero, suc, ◌+◌, ◌≤◌, Bool, true, false, cond, not, ◌&&◌, ◌||◌, ◌==◌, List, [], ◌∷◌, ◌++◌, map, sum, find, count_by, Option, Some, None, unwrap_or, refl, sym, ap, subst, ◌∙◌, arith, le_trans, le_of_eq}
-use Rattle.std.specs.List.{list_any, filter_map}
-use Rattle.std.specs.Option.{option_map, option_map_or}
+use Rattle.std.proofs.Common.{◌≡◌, ℕ, ◌+◌, ◌≤◌, Bool, true, false, cond, not, List, map, sum, Option, Some, None, refl, sym, ap, ◌∙◌, arith, le_trans, le_of_eq}
+use Rattle.std.specs.Option.{option_map}
 use Rattle.std.proofs.lemmas.Simd.{map-map}
 use Rattle.vn_types.specs.declared.half.Half.{Half}
 use Rattle.vn_types.specs.declared.interface.Side.{Side}
 use Rattle.vn_types.specs.declared.interface.Side.TheVariants.{A, B}
-use Rattle.vn_rules.specs.declared.parts.PartsOf.{PartsOf}
-use Rattle.vn_rules.specs.Scenes.{LinkOf, SceneOf, no_link, link_of}
+use Rattle.vn_rules.specs.Scenes.{LinkOf, SceneOf, link_of}
 use Rattle.vn_cells.specs.declared.world.End.{End}
 use Rattle.vn_cells.specs.declared.world.Live.{Live}
 use Rattle.vn_cells.specs.declared.world.Pair.{Pair}
 use Rattle.vn_cells.specs.declared.world.Stack.{Stack}
 use Rattle.vn_cells.specs.declared.world.World.{World}
-use Rattle.vn_cells.specs.world.Names.{Path, Key, half_eq, half_on, has_half, halves_of, key_of, path_eq, path_cmp, key_cmp, key_eq}
-use Rattle.vn_cells.specs.world.World.{stack_at, pair_at, end_of, end_at, ifs_of, live_map, edit_live, each_stack, each_pair}
-use Rattle.vn_cells.specs.machine.Local.{link_by, scene_in, live_after, with_link, end_after, pair_after, placed, halves_at}
+use Rattle.vn_cells.specs.world.Names.{Path, Key, half_eq, half_on, has_half, halves_of, key_of, path_eq, path_cmp, key_cmp}
+use Rattle.vn_cells.specs.world.World.{pair_at, end_of, end_at, live_map, each_stack, each_pair}
+use Rattle.vn_cells.specs.machine.Local.{link_by, scene_in, live_after, with_link, end_after, pair_after, placed}
 use Rattle.vn_cells.specs.machine.Weight.{live_weight, pair_weight, weight}
 use Rattle.vn_packets.specs.Weight.{frames_weight, parts_weight, scene_weight}
-use Rattle.vn_packets.proofs.SceneWeight.{all_weigh, weigh-cons}
+use Rattle.vn_packets.proofs.SceneWeight.{all_weigh}
 use Rattle.std.specs.BTreeMap.{is_at}
 use Rattle.std.specs.List.Sorted.{IsStrictlySortedBy}
 use Rattle.std.specs.Map.{lookup, keys_of}
@@ -29,8 +27,8 @@ use Rattle.vn_types.specs.Entries as entries
 use Rattle.vn_types.specs.Entries.{each}
 use Rattle.vn_types.specs.PathOrder.{path_ties, key_ties}
 use Rattle.vn_types.proofs.PathNames.{path_eq-Decides, key_eq-Decides}
-use Rattle.vn_laws.proofs.edits.Names.{half_eq-Decides, half_eq-sym, same_path, same_key}
-use Rattle.vn_laws.proofs.settling.Sums.{all-same, all-zero, all-both, all-less, one-weighs, one-changed, found-weighs, looked-found, one-at}
+use Rattle.vn_laws.proofs.edits.Names.{half_eq-Decides, same_path, same_key}
+use Rattle.vn_laws.proofs.settling.Sums.{all-less, one-weighs, one-changed, found-weighs, looked-found, one-at}
 use Rattle.vn_laws.proofs.settling.Ends.{Weights, in_pair, ends_weigh, of_halves, of_half, of_others, AreApart, ends-same, ends-each, ends-split, own-links}
 
 -- what the frames weigh that an end sent

@@ -1,13 +1,11 @@
 -- Each delivery that takes something makes a sound world lighter.
-use Rattle.std.proofs.Common.{◌≡◌, ℕ, zero, suc, ◌+◌, ◌≤◌, Bool, true, false, cond, not, ◌&&◌, ◌||◌, ◌==◌, List, [], ◌∷◌, ◌++◌, map, drop, sum, find, count_by, Option, Some, None, Contains, unwrap_or, refl, sym, ap, subst, ◌∙◌, arith, le_trans, le_of_eq}
+use Rattle.std.proofs.Common.{◌≡◌, ℕ, ◌+◌, ◌≤◌, Bool, true, false, cond, List, [], ◌∷◌, ◌++◌, map, drop, sum, count_by, Option, Some, None, unwrap_or, refl, sym, ap, subst, ◌∙◌, arith, le_trans, le_of_eq}
 use Rattle.std.specs.BTreeMap.{is_at}
-use Rattle.std.specs.List.{list_any, filter_map}
 use Rattle.std.specs.List.Sorted.{IsStrictlySortedBy}
 use Rattle.std.specs.Map.{lookup, keys_of, set_value}
-use Rattle.std.specs.Option.{option_map, option_map_or}
+use Rattle.std.specs.Option.{option_map}
 use Rattle.std.specs.Ordering.{is_eq}
-use Rattle.std.proofs.lemmas.Bool.{and_parts, both_ways, false≢true, false_from_ne_true}
-use Rattle.std.proofs.lemmas.List.Sums.{sum_by-cons}
+use Rattle.std.proofs.lemmas.Bool.{both_ways, false≢true, false_from_ne_true}
 use Rattle.std.proofs.lemmas.Simd.{map-map}
 use Rattle.vn_types.proofs.Options.{none_some, some_same}
 use Rattle.vn_types.specs.declared.half.Half.{Half}
@@ -20,10 +18,9 @@ use Rattle.vn_types.specs.PathOrder.{path_total, path_ties, key_ties}
 use Rattle.vn_types.proofs.EntryLaws.{keys_of-each, set_value-insert_entry, find-each}
 use Rattle.vn_types.proofs.PathNames.{path_eq-Decides, key_eq-Decides}
 use Rattle.vn_rules.specs.declared.parts.PartsOf.{PartsOf}
-use Rattle.vn_rules.specs.Scenes.{LinkOf, SceneOf, no_link, link_of}
+use Rattle.vn_rules.specs.Scenes.{LinkOf, SceneOf}
 use Rattle.vn_rules.specs.Soundness.{is_sound_parts}
 use Rattle.vn_rules.proofs.ListTests.{count_map_same}
-use Rattle.vn_cells.specs.declared.event.Event.{Event}
 use Rattle.vn_cells.specs.declared.event.Event.TheVariants as event
 use Rattle.vn_cells.specs.declared.transcript.What.{What}
 use Rattle.vn_cells.specs.declared.world.End.{End}
@@ -32,22 +29,23 @@ use Rattle.vn_cells.specs.declared.world.Pair.{Pair}
 use Rattle.vn_cells.specs.declared.world.Reader.{Reader}
 use Rattle.vn_cells.specs.declared.world.Stack.{Stack}
 use Rattle.vn_cells.specs.declared.world.World.{World}
-use Rattle.vn_cells.specs.world.Names.{Path, Key, If, half_eq, half_on, has_half, halves_of, half_of, key_of, path_eq, path_cmp, key_cmp, key_eq, if_eq}
+use Rattle.vn_cells.specs.world.Names.{Path, Key, If, half_eq, halves_of, key_of, path_eq, path_cmp, key_cmp, key_eq, if_eq}
 use Rattle.std.specs.BTreeMap.{insert_entry}
-use Rattle.vn_cells.specs.world.World.{no_stack, entry_of, stack_at, pair_at, common_of, end_of, end_at, with_end, ifs_in, ifs_of, live_map, edit_stack, edit_live, each_stack, each_pair, edit_pair}
-use Rattle.vn_cells.specs.keeping.Standing.{passes, stands_at, times, IsStanding}
-use Rattle.vn_cells.specs.machine.Local.{link_by, scene_in, live_after, placed, placed_if, told, returned, told_ping, halves_at, act_by, local, hearing, act}
+use Rattle.vn_cells.specs.world.World.{no_stack, entry_of, stack_at, common_of, end_at, ifs_in, ifs_of, live_map, edit_stack, each_stack, each_pair}
+use Rattle.vn_cells.specs.keeping.Standing.{passes, IsStanding}
+use Rattle.vn_cells.specs.machine.Local.{link_by, scene_in, live_after, placed, placed_if, told, returned, told_ping, act_by, local, hearing, act}
 use Rattle.vn_cells.specs.machine.Queues.{has_any, frames_to, without_frame, taken}
 use Rattle.vn_cells.specs.machine.Weight.{live_weight, pair_weight, weight}
 use Rattle.vn_rules.specs.Rules.{Common}
-use Rattle.vn_packets.specs.Icmp.{HeardOf}
 use Rattle.vn_packets.specs.Reception.{frame_received, loop_received}
-use Rattle.vn_packets.specs.Weight.{frame_weight, frames_weight, parts_weight, scene_weight}
+use Rattle.vn_packets.specs.Weight.{frame_weight, frames_weight, scene_weight}
 use Rattle.vn_packets.specs.Weighing.{HasOneLink, HasOneEntry}
 use Rattle.vn_packets.proofs.Apart.{one-entry}
+use Rattle.vn_packets.proofs.Counting.{count-cons}
 use Rattle.vn_packets.proofs.ReceptionWeight.{frame_received-lighter, loop_received-lighter}
 use Rattle.vn_packets.proofs.SceneWeight.{all_weigh, weigh-cons}
-use Rattle.vn_laws.proofs.edits.Names.{half_eq-Decides, half_eq-sym, same_path, same_key}
+use Rattle.vn_laws.proofs.edits.Names.{half_eq-Decides, half_eq-sym, same_key}
+use Rattle.vn_laws.proofs.edits.NamesOnce.{listed_once}
 use Rattle.vn_laws.proofs.settling.Sums.{one-changed, looked-found, one-at}
 use Rattle.vn_laws.proofs.settling.Ends.{AreApart}
 use Rattle.vn_laws.proofs.settling.Falling.{stacks_weigh, key-itself, placed-weight}
@@ -104,9 +102,9 @@ module _ (w : World) (h : Half) (pair : Pair) (frame : List ℕ) (more : List (L
 
 halves-count : (h : Half) (ifs : List If) → count_by (half_eq h) (halves_of ifs) ≡ count_by (if_eq (OfHalf h)) ifs
 halves-count h [] = refl
-halves-count h (Lo0 ∷ ifs) = omega (arith, halves-count h ifs, sum_by-cons (λ (on : If). cond {A = ℕ} (if_eq (OfHalf h) on) 1 0) Lo0 ifs)
+halves-count h (Lo0 ∷ ifs) = omega (arith, halves-count h ifs, count-cons (if_eq (OfHalf h)) Lo0 ifs)
 halves-count h (OfHalf g ∷ ifs) =
-    omega (arith, halves-count h ifs, sum_by-cons (λ (on : If). cond {A = ℕ} (if_eq (OfHalf h) on) 1 0) (OfHalf g) ifs, sum_by-cons (λ (k : Half). cond {A = ℕ} (half_eq h k) 1 0) g (halves_of ifs))
+    omega (arith, halves-count h ifs, count-cons (if_eq (OfHalf h)) (OfHalf g) ifs, count-cons (half_eq h) g (halves_of ifs))
 
 one-link-each : (w : World) (parts : PartsOf Half) → AreApart (halves_of parts.interfaces) → HasOneLink half_eq (scene_in w parts)
 unfolding scene_in
@@ -188,13 +186,8 @@ module _ (w : World) (standing : IsStanding w) (stacks : IsStrictlySortedBy path
   living-apart p live lives h =
       let count = halves-count h live.parts.interfaces in
       let same : count_by (if_eq (OfHalf h)) (ifs_of (stack_at w p)) ≡ count_by (if_eq (OfHalf h)) live.parts.interfaces = ap (λ o. count_by (if_eq (OfHalf h)) (ifs_in o)) lives in
-      let listed = standing.listed p (OfHalf h) in
-      let most = once (stands_at p h.side (pair_at w (key_of h))) in
-      omega (arith, count, same, listed, most)
-    where
-      once : (b : Bool) → times b ≤ 1
-      once true = omega arith
-      once false = omega arith
+      let most = listed_once w standing p (OfHalf h) in
+      omega (arith, count, same, most)
 
   living-sound : (p : Path) (live : Live) → (stack_at w p).live ≡ Some live → is_sound_parts half_eq live.parts ≡ true
   living-sound p live lives = sym (ap (passes (is_sound_parts half_eq)) lives) ∙ standing.tables p

@@ -1,5 +1,5 @@
 -- Settling takes at most as many deliveries as the weight of the world in which it starts.
-use Rattle.std.proofs.Common.{◌≡◌, ℕ, zero, suc, ◌+◌, ◌≤◌, Bool, true, false, cond, not, ◌&&◌, List, [], ◌∷◌, length, find, Option, Some, None, unwrap_or, is_some, refl, sym, ap, subst, ◌∙◌, arith, le_trans, le_of_eq}
+use Rattle.std.proofs.Common.{◌≡◌, ℕ, zero, suc, ◌+◌, ◌≤◌, Bool, true, false, cond, List, [], ◌∷◌, length, find, Option, Some, None, unwrap_or, is_some, refl, sym, ap, subst, ◌∙◌, arith}
 use Rattle.std.specs.BTreeMap.{is_at}
 use Rattle.std.specs.List.{AllByRecursion}
 use Rattle.std.specs.List.Sorted.{IsStrictlySortedBy}
@@ -8,7 +8,7 @@ use Rattle.std.specs.Option.{option_map}
 use Rattle.std.specs.Ordering.{is_eq}
 use Rattle.std.specs.declared.cmp.Ordering.{Ordering}
 use Rattle.std.specs.declared.cmp.Ordering.TheVariants.{Less}
-use Rattle.std.proofs.lemmas.Bool.{and_parts, both_ways, false≢true, false_from_ne_true}
+use Rattle.std.proofs.lemmas.Bool.{and_parts, false≢true, false_from_ne_true}
 use Rattle.vn_types.proofs.Options.{none_some, some_same}
 use Rattle.vn_types.specs.declared.half.Half.{Half}
 use Rattle.vn_types.specs.declared.interface.Side.{Side}
@@ -23,7 +23,7 @@ use Rattle.vn_cells.specs.declared.world.Live.{Live}
 use Rattle.vn_cells.specs.declared.world.Pair.{Pair}
 use Rattle.vn_cells.specs.declared.world.Stack.{Stack}
 use Rattle.vn_cells.specs.declared.world.World.{World}
-use Rattle.vn_cells.specs.keeping.Standing.{is_placed, IsStanding}
+use Rattle.vn_cells.specs.keeping.Standing.{is_placed}
 use Rattle.vn_cells.specs.keeping.Sound.{IsSound}
 use Rattle.vn_cells.specs.machine.Deliveries.{first_looped, reached_in, first_reached, next_delivery, deliveries, settle_events}
 use Rattle.vn_cells.specs.machine.Local.{act}

@@ -1,7 +1,5 @@
 -- Sums over lists of which one element, or some, weigh something else than before.
-use Rattle.std.proofs.Common.{◌≡◌, ℕ, ◌+◌, ◌≤◌, Bool, true, false, cond, not, List, [], ◌∷◌, map, sum, find, count_by, Option, Some, None, refl, sym, ap, subst, ◌∙◌, arith, le_trans, le_of_eq}
-use Rattle.std.specs.List.{list_any}
-use Rattle.std.proofs.lemmas.List.Sums.{sum_by-cons}
+use Rattle.std.proofs.Common.{◌≡◌, ℕ, ◌+◌, ◌≤◌, Bool, true, false, cond, List, [], ◌∷◌, find, count_by, Some, refl, sym, ap, subst, ◌∙◌, arith}
 use Rattle.std.specs.BTreeMap.{is_at}
 use Rattle.std.specs.List.{AllByRecursion}
 use Rattle.std.specs.List.Sorted.{IsStrictlySortedBy}
@@ -9,8 +7,9 @@ use Rattle.std.specs.Map.{lookup, keys_of}
 use Rattle.std.specs.Ordering.{is_eq}
 use Rattle.std.specs.declared.cmp.Ordering.{Ordering}
 use Rattle.std.specs.declared.cmp.Ordering.TheVariants.{Less}
-use Rattle.std.proofs.lemmas.Bool.{both_ways, false_from_ne_true}
+use Rattle.std.proofs.lemmas.Bool.{false_from_ne_true}
 use Rattle.vn_types.proofs.Options.{none_some, some_same}
+use Rattle.vn_packets.proofs.Counting.{count-cons, none-cons, one-cons}
 use Rattle.vn_packets.proofs.SceneWeight.{all_weigh, weigh-cons}
 
 module _ {A : Type 0} where
@@ -30,9 +29,6 @@ module _ {A : Type 0} where
   all-less v w less (x ∷ xs) = omega (arith, weigh-cons v x xs, weigh-cons w x xs, less x, all-less v w less xs)
 
   module _ (t : A → Bool) where
-    count-cons : (x : A) (xs : List A) → count_by t (x ∷ xs) ≡ cond {A = ℕ} (t x) 1 0 + count_by t xs
-    count-cons x xs = sum_by-cons (λ y. cond (t y) 1 0) x xs
-
     -- what is found weighs no more than all
     pub found-weighs : (w : A → ℕ) (xs : List A) (x : A) → find t xs ≡ Some x → w x ≤ all_weigh w xs
     found-weighs w [] x found = absurd (none_some x found)
@@ -46,58 +42,38 @@ module _ {A : Type 0} where
       none-changed : (xs : List A) → count_by t xs ≡ 0 → all_weigh v xs ≡ all_weigh w xs
       none-changed [] none = refl
       none-changed (y ∷ xs) none =
-          let all = by (t y) refl (sym (count-cons y xs) ∙ none) (none-changed xs) in omega (arith, all, weigh-cons v y xs, weigh-cons w y xs)
-        where
-          clash : 1 + count_by t xs ≡ 0 → ⊥
-          clash e = omega arith
-
-          rest : 0 + count_by t xs ≡ 0 → count_by t xs ≡ 0
-          rest e = omega arith
-
-          by : (b : Bool) → t y ≡ b → cond {A = ℕ} b 1 0 + count_by t xs ≡ 0 → (count_by t xs ≡ 0 → all_weigh v xs ≡ all_weigh w xs) → v y + all_weigh v xs ≡ w y + all_weigh w xs
-          by true is e more = absurd (clash e)
-          by false is e more = let here = same y is in let others = more (rest e) in omega (arith, here, others)
+          let parts = none-cons t y xs none in
+          let here = same y parts.0 in
+          let others = none-changed xs parts.1 in
+          omega (arith, here, others, weigh-cons v y xs, weigh-cons w y xs)
 
       -- the one that passes weighs something else
       pub one-changed : (xs : List A) → count_by t xs ≤ 1 → (x : A) → find t xs ≡ Some x → all_weigh v xs + w x ≡ all_weigh w xs + v x
       one-changed [] one x found = absurd (none_some x found)
       one-changed (y ∷ xs) one x found =
-          let all = by (t y) refl (le_trans (le_of_eq (sym (count-cons y xs))) one) found (one-changed xs) in omega (arith, all, weigh-cons v y xs, weigh-cons w y xs)
+          let parts = one-cons t y xs one in
+          let all = by (t y) refl found (λ is. none-changed xs (parts.1 is)) (one-changed xs parts.0 x) in omega (arith, all, weigh-cons v y xs, weigh-cons w y xs)
         where
-          none : 1 + count_by t xs ≤ 1 → count_by t xs ≡ 0
-          none e = omega arith
-
-          rest : 0 + count_by t xs ≤ 1 → count_by t xs ≤ 1
-          rest e = omega arith
-
-          by : (b : Bool) → t y ≡ b → cond {A = ℕ} b 1 0 + count_by t xs ≤ 1 → cond b (Some y) (find t xs) ≡ Some x
-              → (count_by t xs ≤ 1 → (x : A) → find t xs ≡ Some x → all_weigh v xs + w x ≡ all_weigh w xs + v x)
-              → v y + all_weigh v xs + w x ≡ w y + all_weigh w xs + v x
-          by true is e found more =
-              let others = none-changed xs (none e) in
+          by : (b : Bool) → t y ≡ b → cond b (Some y) (find t xs) ≡ Some x → (b ≡ true → all_weigh v xs ≡ all_weigh w xs)
+              → (find t xs ≡ Some x → all_weigh v xs + w x ≡ all_weigh w xs + v x) → v y + all_weigh v xs + w x ≡ w y + all_weigh w xs + v x
+          by true is found none more =
+              let others = none refl in
               let vs = ap v (some_same y x found) in
               let ws = ap w (some_same y x found) in
               omega (arith, others, vs, ws)
-          by false is e found more = let here = same y is in let others = more (rest e) x found in omega (arith, here, others)
+          by false is found none more = let here = same y is in let others = more found in omega (arith, here, others)
 
     -- one passes, or none, and the others weigh nothing
     pub one-weighs : (w : A → ℕ) (c : ℕ) → ((x : A) → t x ≡ true → w x ≤ c) → ((x : A) → t x ≡ false → w x ≡ 0) → (xs : List A) → count_by t xs ≤ 1 → all_weigh w xs ≤ c
     one-weighs w c most nothing [] one = omega arith
     one-weighs w c most nothing (y ∷ xs) one =
-        let all = by (t y) refl (le_trans (le_of_eq (sym (count-cons y xs))) one) (one-weighs w c most nothing xs) (zero xs) in omega (arith, all, weigh-cons w y xs)
+        let parts = one-cons t y xs one in
+        let all = by (t y) refl (one-weighs w c most nothing xs parts.0) (λ is. none-changed w (λ x. 0) nothing xs (parts.1 is) ∙ all-zero xs) in
+        omega (arith, all, weigh-cons w y xs)
       where
-        none : 1 + count_by t xs ≤ 1 → count_by t xs ≡ 0
-        none e = omega arith
-
-        rest : 0 + count_by t xs ≤ 1 → count_by t xs ≤ 1
-        rest e = omega arith
-
-        zero : (xs : List A) → count_by t xs ≡ 0 → all_weigh w xs ≡ 0
-        zero xs e = none-changed w (λ x. 0) nothing xs e ∙ all-zero xs
-
-        by : (b : Bool) → t y ≡ b → cond {A = ℕ} b 1 0 + count_by t xs ≤ 1 → (count_by t xs ≤ 1 → all_weigh w xs ≤ c) → (count_by t xs ≡ 0 → all_weigh w xs ≡ 0) → w y + all_weigh w xs ≤ c
-        by true is e more rest0 = let here = most y is in let others = rest0 (none e) in omega (arith, here, others)
-        by false is e more rest0 = let here = nothing y is in let others = more (rest e) in omega (arith, here, others)
+        by : (b : Bool) → t y ≡ b → all_weigh w xs ≤ c → (b ≡ true → all_weigh w xs ≡ 0) → w y + all_weigh w xs ≤ c
+        by true is more none = let here = most y is in let others = none refl in omega (arith, here, others)
+        by false is more none = let here = nothing y is in omega (arith, here, more)
 
 -- ---- entries under their keys
 

@@ -1,5 +1,5 @@
 -- A sound world settles within its weight, since each delivery keeps it sound and makes it lighter.
-use Rattle.std.proofs.Common.{◌≡◌, ℕ, ◌≤◌, List, length, Option, Some, None, subst}
+use Rattle.std.proofs.Common.{◌≡◌, ◌≤◌, length, Option, Some, None, subst}
 use Rattle.std.specs.Option.{option_map}
 use Rattle.vn_types.proofs.Options.{none_some, some_same}
 use Rattle.vn_types.specs.declared.half.Half.{Half}

@@ -23,35 +23,15 @@ use Rattle.vn_cells.specs.machine.Queues.{taken}
 use Rattle.vn_cells.specs.machine.Step.{ran, delivered, commanded}
 use Rattle.vn_laws.proofs.Commands.{goes-far}
 use Rattle.vn_laws.proofs.edits.Cells.{stack_at-edit_stack, stack_at-each_pair}
+use Rattle.vn_laws.proofs.edits.Goes.{SameReaders, readers-none, readers-then, edit_keeps, readers-edit_stack}
 use Rattle.vn_laws.proofs.local.Delivered.{either_heard}
 use Rattle.vn_laws.proofs.local.Placed.{placed_stack}
 use Rattle.vn_laws.proofs.rule.Answers.{commanded-keeps}
 
--- every stack has the readers that it had
-pub record SameReaders (v w : World) : Type 0 where
-  pub of : (q : Path) → (stack_at w q).readers ≡ (stack_at v q).readers
-
-pub readers-none : (w : World) → SameReaders w w
-readers-none w = record { of = λ q. refl }
-
-pub readers-then : {u v w : World} → SameReaders u v → SameReaders v w → SameReaders u w
-readers-then a b = record { of = λ q. b.of q ∙ a.of q }
-
--- ---- edits
-
-edit_keeps : (f : Stack → Stack) (s : Stack) → (f s).readers ≡ s.readers → (b : Bool) → (if b then f s else s).readers ≡ s.readers
-edit_keeps f s keeps true = keeps
-edit_keeps f s keeps false = refl
-
-pub readers-edit_stack : (p : Path) (f : Stack → Stack) (w : World) → ((s : Stack) → (f s).readers ≡ s.readers) → SameReaders w (edit_stack p f w)
-readers-edit_stack p f w keeps = record {
-  of = λ q. ap (λ (s : Stack). s.readers) (stack_at-edit_stack p f w q) ∙ edit_keeps f (stack_at w q) (keeps (stack_at w q)) (path_eq q p);
-}
-
 -- ---- a command
 
 readers-far : (common : Common) (issuer : Path) (r : Reach) (w : World) → SameReaders w (far_rule common issuer r w).otherwise.left
-readers-far common issuer r w = record { of = (goes-far common issuer r w).readers }
+readers-far common issuer r w = (goes-far common issuer r w).readers
 
 readers-placed_if : (p : Path) (halves : List Half) (o : Option (SceneOf Half)) (w : World) → SameReaders w (placed_if p halves o w)
 unfolding placed_if

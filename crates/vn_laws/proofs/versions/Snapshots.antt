@@ -21,7 +21,8 @@ use Rattle.vn_cells.specs.machine.Step.{acting, acted, opening, step, run, run_f
 use Rattle.vn_laws.proofs.edits.Cells.{own_edit, stack_at-edit_stack}
 use Rattle.vn_laws.proofs.local.Events.{either_acted}
 use Rattle.vn_laws.proofs.versions.Lines.{reader, lines_after, open-keeps, open-made, next-keeps, close-keeps, next-outcome}
-use Rattle.vn_laws.proofs.versions.SameReaders.{SameReaders, readers-none, readers-commanded, readers-delivered, readers-looped, readers-fired}
+use Rattle.vn_laws.proofs.edits.Goes.{SameReaders, readers-none}
+use Rattle.vn_laws.proofs.versions.SameReaders.{readers-commanded, readers-delivered, readers-looped, readers-fired}
 
 -- the lane's reader at a path has these lines
 abbrev IsAt : World → ℕ → Path → List (List ℕ) → Type 0
