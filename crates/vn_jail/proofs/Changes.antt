@@ -7,12 +7,12 @@ use Rattle.std.specs.Cmp.{both_ways}
 use Rattle.std.proofs.lemmas.Bool.{and_parts, and_from, cases_eq, cases_lt, cond-true, cond-false, false_from_ne_true}
 use Rattle.std.proofs.lemmas.List.{get_or_default, get_or-map, get_or_past, length-map, length-set, get_or-set_same, get_or-set_other, same_lists}
 use Rattle.std.proofs.lemmas.List.Folds.{list_any_at}
-use Rattle.vn_types.specs.Paths.{Path, path_eq, path_cmp, above, parent, from}
-use Rattle.vn_types.proofs.Ancestors.{above-from}
+use Rattle.vn_types.specs.Paths.{Path, path_eq, path_cmp, above, parent}
 use Rattle.vn_jail.specs.declared.jail.Jail.{Jail}
 use Rattle.vn_jail.specs.Tree.{at, path_at, recount, dead_jail, changed, is_alive, is_at, lives_at}
 use Rattle.vn_jail.specs.Kept.{IsLinked, IsNumbered}
 use Rattle.vn_jail.proofs.Numbers.{is-alive, found, within, path-at, at-path}
+use Rattle.vn_jail.proofs.Upwards.{over, untold}
 
 -- what stands where no jail does
 abbrev pub none : Jail
@@ -34,6 +34,11 @@ recount-same part apart f ps j = by (list_any (path_eq j.path) ps)
 pub as-many : (edit : Jail → Jail) (f : ℕ → ℕ) (p : Path) (jails : List Jail) → length (changed edit f p jails) ≡ length jails
 unfolding changed
 as-many edit f p jails = length-map jails _
+
+-- a jail counts nothing where those above it do
+pub untouched : (f : ℕ → ℕ) (jails : List Jail) (linked : IsLinked jails) (s : ℕ) → s < length jails → 0 < s → (js : List Jail) → js ≡ map (recount f (above (path_at jails s))) jails → (d : Jail) → get_or js s d ≡ at jails s
+untouched f jails linked s within some js told d =
+    ap (λ ks. get_or ks s d) (told ∙ ap (λ ps. map (recount f ps) jails) (sym (over jails linked s within some))) ∙ untold f jails linked s within some d
 
 module _ (edit : Jail → Jail) (f : ℕ → ℕ) (stays : Stays edit) (jails : List Jail) (linked : IsLinked jails) (s : ℕ) (in' : s < length jails) where
   abbrev p : Path
@@ -101,21 +106,18 @@ module _ (edit : Jail → Jail) (f : ℕ → ℕ) (stays : Stays edit) (jails : 
       by q (Some n) h = path-stays n ∙ h
 
   -- the jail is written after those above it have counted
-  pub changed-is : (js : List Jail) → js ≡ map (recount f (from (path_at jails (at jails s).parent))) jails → 0 < s → slice_set js s (edit (at jails s)) ≡ changed edit f (path_at jails s) jails
-  changed-is js told some = ap (λ ks. slice_set ks s (edit (at jails s))) told ∙ same_lists _ _ (size ∙ sym long) each
+  pub changed-is : (js : List Jail) → js ≡ map (recount f (above (path_at jails s))) jails → slice_set js s (edit (at jails s)) ≡ changed edit f (path_at jails s) jails
+  changed-is js told = ap (λ ks. slice_set ks s (edit (at jails s))) told ∙ same_lists _ _ (size ∙ sym long) each
     where
-      over : from (path_at jails (at jails s).parent) ≡ above (path_at jails s)
-      over = ap from (linked.linked s some in') ∙ sym (above-from (path_at jails s))
-
-      size : length (slice_set (map (recount f (from (path_at jails (at jails s).parent))) jails) s (edit (at jails s))) ≡ length jails
+      size : length (slice_set (map (recount f (above p)) jails) s (edit (at jails s))) ≡ length jails
       size = length-set _ s _ ∙ length-map jails _
 
-      each : (k : ℕ) (d : Jail) → k < length (slice_set (map (recount f (from (path_at jails (at jails s).parent))) jails) s (edit (at jails s)))
-          → get_or (slice_set (map (recount f (from (path_at jails (at jails s).parent))) jails) s (edit (at jails s))) k d ≡ get_or (changed edit f (path_at jails s) jails) k d
+      each : (k : ℕ) (d : Jail) → k < length (slice_set (map (recount f (above p)) jails) s (edit (at jails s)))
+          → get_or (slice_set (map (recount f (above p)) jails) s (edit (at jails s))) k d ≡ get_or (changed edit f (path_at jails s) jails) k d
       each k d lt = ⊎_elim
-          (λ (e : k ≡ s). ap (λ m. get_or (slice_set (map (recount f (from (path_at jails (at jails s).parent))) jails) s (edit (at jails s))) m d) e ∙ get_or-set_same _ s _ d (omega (arith, in', length-map jails (recount f (from (path_at jails (at jails s).parent)))))
+          (λ (e : k ≡ s). ap (λ m. get_or (slice_set (map (recount f (above p)) jails) s (edit (at jails s))) m d) e ∙ get_or-set_same _ s _ d (omega (arith, in', length-map jails (recount f (above p))))
           ∙ sym (get_or_default new k d none (omega (arith, long, size, lt)) ∙ ap (at new) e ∙ changed-at))
-          (λ ne. get_or-set_other _ s k _ d ne ∙ get_or-map _ jails k none d (omega (arith, size, lt)) ∙ ap (λ ps. recount f ps (at jails k)) over
+          (λ ne. get_or-set_other _ s k _ d ne ∙ get_or-map _ jails k none d (omega (arith, size, lt))
           ∙ sym (get_or_default new k d none (omega (arith, long, size, lt)) ∙ changed-other k (omega (arith, size, lt)) ne))
           (cases_eq k s)
 

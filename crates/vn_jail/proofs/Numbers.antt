@@ -43,6 +43,10 @@ pub within : (jails : List Jail) (n : ℕ) → (at jails n).alive ≡ true → n
 within jails n lives = ⊎_elim (λ (lt : n < length jails). lt)
     (λ (le : length jails ≤ n). absurd (false≢true (sym (ap (λ (j : Jail). j.alive) (get_or_past jails n (dead_jail [] 0) le)) ∙ lives))) (cases_lt n (length jails))
 
+-- what lives in an equal list lives, and has a number
+pub lives-within : (jails view : List Jail) → jails ≡ view → (s : ℕ) → (at view s).alive ≡ true → ((at jails s).alive ≡ true) × (s < length jails)
+lives-within jails view same s lives = let here : (at jails s).alive ≡ true = ap (λ ls. (at ls s).alive) same ∙ lives in (here, within jails s here)
+
 -- the number of a path that has one
 pub number-known : (jails : List Jail) (p : Path) → is_known p jails ≡ true → (number_of p jails < length jails) × (path_at jails (number_of p jails) ≡ p)
 unfolding number_of

@@ -1,13 +1,13 @@
 -- The table is kept when a jail begins or ends, and what is answered of it.
-use Rattle.std.proofs.Common.{◌≡◌, ◌≢◌, ℕ, zero, suc, ◌+◌, ◌-◌, ◌<◌, ◌≤◌, Bool, true, false, ◌&&◌, ◌||◌, List, [], ◌∷◌, ◌++◌, length, get_or, take, reverse, Some, None, IfSome, cond, refl, sym, ap, ap₂, ◌∙◌, subst, arith, ⊎_elim}
+use Rattle.std.proofs.Common.{◌≡◌, ◌≢◌, ℕ, zero, suc, ◌+◌, ◌-◌, ◌<◌, Bool, true, false, ◌&&◌, ◌||◌, List, [], ◌∷◌, ◌++◌, length, get_or, take, reverse, Some, None, IfSome, cond, refl, sym, ap, ap₂, ◌∙◌, subst, arith, ⊎_elim}
 use Rattle.std.specs.List.{list_any, filter, insert, remove}
 use Rattle.std.specs.List.Sorted.{IsStrictlySortedBy}
 use Rattle.std.specs.BTreeMap.{get, is_at as is_key}
-use Rattle.std.specs.Ordering.{is_lt, is_eq}
+use Rattle.std.specs.Ordering.{is_eq, ordering_reverse}
 use Rattle.std.specs.declared.cmp.Ordering.{Ordering}
 use Rattle.std.specs.declared.cmp.Ordering.TheVariants.{Less, Equal, Greater}
 use Rattle.std.proofs.lemmas.Bool.{eqb-true, and_parts, and_from, cases_eq, cond-true, eq-eqb, ne_eqb, false≢true, false_from_ne_true}
-use Rattle.std.proofs.lemmas.List.{reverse-reverse}
+use Rattle.std.proofs.lemmas.List.{get_or-reverse, length-reverse, reverse-reverse}
 use Rattle.std.proofs.Math.Seq.{take-append_seam}
 use Rattle.std.proofs.lemmas.List.Kept.{IsStrictlySortedBy-filter}
 use Rattle.std.proofs.lemmas.List.Sorted.{IsPermutation-reverse, list_any-IsPermutation}
@@ -16,28 +16,22 @@ use Rattle.std.proofs.lemmas.List.Folds.{list_any_at}
 use Rattle.vn_types.specs.declared.interface.Sid.{Sid}
 use Rattle.vn_types.specs.Paths.{Path, path_eq, path_cmp, above, parent, is_host, is_under, from}
 use Rattle.vn_types.specs.declared.errno.Errno.TheVariants.{Perm}
-use Rattle.vn_types.specs.PathOrder.{path_eq-Decides, path_cmp-exact}
+use Rattle.vn_types.specs.PathOrder.{path_eq-Decides, path_cmp-exact, path_total}
 use Rattle.vn_types.proofs.Ancestors.{is_host-is, parent-none, above-from}
 use Rattle.vn_jail.specs.declared.jail.Jail.{Jail}
 use Rattle.vn_jail.specs.Tree.{any_full, at, create_refusal, path_at, host_jail, changed, is_alive, lives_at, number_of, start, stop}
 use Rattle.vn_jail.specs.Order.{by_path, Rises, IsInOrder, IsTeardown, has_number}
 use Rattle.vn_jail.specs.Kept.{IsLinked, IsKept}
-use Rattle.std.specs.Ordering.{ordering_reverse}
-use Rattle.std.proofs.lemmas.List.{get_or-reverse, length-reverse}
-use Rattle.vn_types.specs.PathOrder.{path_total}
 use Rattle.vn_types.proofs.UnderPaths.{less-below, under-refl}
-use Rattle.vn_jail.proofs.Places.{Place, place-of}
-use Rattle.vn_jail.proofs.Numbers.{Found}
-use Rattle.vn_jail.proofs.Numbers.{number-known, alive-known, found, within, at-path}
+use Rattle.vn_jail.proofs.Numbers.{Found, number-known, alive-known, found, within, at-path}
 use Rattle.vn_jail.proofs.Orders.{ascends, by-path-total}
 use Rattle.vn_jail.proofs.Changes.{linked-changed, numbered-changed, path-stays, alive-stays, changed-at}
 use Rattle.vn_jail.proofs.Trees.{tree-started, tree-ended}
 use Rattle.vn_jail.proofs.Known.{Numbers}
-use Rattle.vn_jail.proofs.Places.{itself, ordered-insert, ordered-remove, stands-within}
+use Rattle.vn_jail.proofs.Places.{Divides, Place, itself, ordered-insert, ordered-remove, place-of, stands-within}
 
-module _ (jails : List Jail) (numbers : Numbers) (order : List Sid) (kept : IsKept jails numbers order) (sid : Sid) (in' : sid.0 < length jails) (place : ℕ) (fits : place ≤ length order)
-    (before : (k : ℕ) (d : Sid) → k < place → is_lt (path_cmp (path_at jails (get_or order k d).0) (path_at jails sid.0)) ≡ true)
-    (behind : (k : ℕ) (d : Sid) → place ≤ k → k < length order → is_lt (path_cmp (path_at jails (get_or order k d).0) (path_at jails sid.0)) ≡ false) where
+module _ (jails : List Jail) (numbers : Numbers) (order : List Sid) (kept : IsKept jails numbers order) (sid : Sid) (in' : sid.0 < length jails) (place : ℕ)
+    (divides : Divides jails order (path_at jails sid.0) place) where
   -- a jail begins
   pub kept-started : (limit : ℕ) → is_host (path_at jails sid.0) ≡ false → (at jails sid.0).alive ≡ false → is_alive (parent (path_at jails sid.0)) jails ≡ true
       → IsKept (changed (start limit) (λ n. n + 1) (path_at jails sid.0) jails) numbers (insert order place sid)
@@ -45,7 +39,7 @@ module _ (jails : List Jail) (numbers : Numbers) (order : List Sid) (kept : IsKe
     linked = linked-changed (start limit) (λ n. n + 1) (λ j. (refl, refl)) jails kept.linked sid.0 in';
     tree = tree-started limit jails kept.linked kept.tree sid.0 in' label was up;
     numbered = numbered-changed (start limit) (λ n. n + 1) (λ j. (refl, refl)) jails kept.linked sid.0 in' numbers kept.numbered;
-    ordered = ordered-insert jails kept.linked order kept.ordered sid in' place fits before behind (changed (start limit) (λ n. n + 1) (path_at jails sid.0) jails)
+    ordered = ordered-insert jails kept.linked order kept.ordered sid in' place divides (changed (start limit) (λ n. n + 1) (path_at jails sid.0) jails)
         (path-stays (start limit) (λ n. n + 1) (λ j. (refl, refl)) jails kept.linked sid.0 in') (alive-stays (start limit) (λ n. n + 1) (λ j. (refl, refl)) jails kept.linked sid.0 in')
         was (ap (λ (j : Jail). j.alive) (changed-at (start limit) (λ n. n + 1) (λ j. (refl, refl)) jails kept.linked sid.0 in'));
   }
@@ -53,7 +47,7 @@ module _ (jails : List Jail) (numbers : Numbers) (order : List Sid) (kept : IsKe
   -- one ends
   module _ (was : (at jails sid.0).alive ≡ true) where
     pub ends-within : place < length order
-    ends-within = stands-within jails kept.linked order kept.ordered sid in' place fits before behind (changed stop (λ n. n - 1) (path_at jails sid.0) jails)
+    ends-within = stands-within jails kept.linked order kept.ordered sid in' place divides (changed stop (λ n. n - 1) (path_at jails sid.0) jails)
         (path-stays stop (λ n. n - 1) (λ j. (refl, refl)) jails kept.linked sid.0 in') (alive-stays stop (λ n. n - 1) (λ j. (refl, refl)) jails kept.linked sid.0 in') was
 
     pub kept-ended : sid.0 ≢ 0 → ((q : Path) → is_alive q jails ≡ true → parent q ≢ path_at jails sid.0) → IsKept (changed stop (λ n. n - 1) (path_at jails sid.0) jails) numbers (remove order place)
@@ -61,7 +55,7 @@ module _ (jails : List Jail) (numbers : Numbers) (order : List Sid) (kept : IsKe
       linked = linked-changed stop (λ n. n - 1) (λ j. (refl, refl)) jails kept.linked sid.0 in';
       tree = tree-ended jails kept.linked kept.tree sid.0 in' apart was childless;
       numbered = numbered-changed stop (λ n. n - 1) (λ j. (refl, refl)) jails kept.linked sid.0 in' numbers kept.numbered;
-      ordered = ordered-remove jails kept.linked order kept.ordered sid in' place fits before behind (changed stop (λ n. n - 1) (path_at jails sid.0) jails)
+      ordered = ordered-remove jails kept.linked order kept.ordered sid in' place divides (changed stop (λ n. n - 1) (path_at jails sid.0) jails)
           (path-stays stop (λ n. n - 1) (λ j. (refl, refl)) jails kept.linked sid.0 in') (alive-stays stop (λ n. n - 1) (λ j. (refl, refl)) jails kept.linked sid.0 in')
           was (ap (λ (j : Jail). j.alive) (changed-at stop (λ n. n - 1) (λ j. (refl, refl)) jails kept.linked sid.0 in'));
     }
@@ -118,10 +112,6 @@ kept-opened empty numbers none' put = record {
 -- what is written through a slice
 pub written : {X : Type 0} (n : ℕ) (new rest : List X) → length new ≡ n → take n (new ++ rest) ≡ new
 written n new rest e = ap (λ k. take k (new ++ rest)) (sym e) ∙ take-append_seam new rest
-
--- one test over equal lists
-pub test-same : (js jails : List Jail) (os order : List Sid) (path p : Path) → js ≡ jails → os ≡ order → path ≡ p → (k : ℕ) (d : Sid) → is_lt (path_cmp (path_at jails (get_or order k d).0) p) ≡ is_lt (path_cmp (path_at js (get_or os k d).0) path)
-test-same js jails os order path p j o e k d = sym (ap (λ ls. is_lt (path_cmp (path_at ls (get_or os k d).0) path)) j ∙ ap (λ ls. is_lt (path_cmp (path_at jails (get_or ls k d).0) path)) o ∙ ap (λ q. is_lt (path_cmp (path_at jails (get_or order k d).0) q)) e)
 
 -- only number 0 is host's
 pub label-of : (jails : List Jail) → IsLinked jails → (s : ℕ) → s < length jails → s ≢ 0 → is_host (path_at jails s) ≡ false

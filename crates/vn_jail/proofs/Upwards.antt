@@ -4,7 +4,7 @@ use Rattle.std.specs.Prelude.{if◌then◌else◌, slice_set}
 use Rattle.std.specs.List.{list_any}
 use Rattle.std.proofs.lemmas.Bool.{cases_eq, cases_lt, false_from_ne_true, false≢true}
 use Rattle.std.proofs.lemmas.List.{same_lists, get_or-map, get_or-set_same, get_or-set_other, length-map, length-set}
-use Rattle.vn_types.specs.Paths.{Path, path_eq, from}
+use Rattle.vn_types.specs.Paths.{Path, path_eq, above, from}
 use Rattle.vn_types.specs.PathOrder.{path_eq-Decides}
 use Rattle.vn_types.proofs.Ancestors.{from-below, above-from, not-above, shorter}
 use Rattle.vn_jail.specs.declared.jail.Jail.{Jail}
@@ -27,9 +27,13 @@ module _ (jails : List Jail) (linked : IsLinked jails) (n : ℕ) (within : n < l
   pub from-host : n ≡ 0 → from (path_at jails n) ≡ []
   from-host e = ap (λ k. from (path_at jails k)) e ∙ ap from linked.host
 
+  -- from the parent's number on upwards there are those above
+  pub over : 0 < n → from (path_at jails (at jails n).parent) ≡ above (path_at jails n)
+  over some = ap from (linked.linked n some within) ∙ sym (above-from (path_at jails n))
+
   -- from a number on upwards there are its path and those from its parent's number on
   pub from-parent : 0 < n → from (path_at jails n) ≡ path_at jails n ∷ from (path_at jails (at jails n).parent)
-  from-parent some = from-below (path_at jails n) (has-label some) ∙ ap (λ ps. path_at jails n ∷ ps) (above-from (path_at jails n) ∙ ap from (sym (linked.linked n some within)))
+  from-parent some = from-below (path_at jails n) (has-label some) ∙ ap (λ ps. path_at jails n ∷ ps) (sym (over some))
 
   pub smaller : 0 < n → length (path_at jails (at jails n).parent) < length (path_at jails n)
   smaller some = let s = shorter (path_at jails n) (has-label some) in let l = ap length (linked.linked n some within) in omega arith
@@ -42,7 +46,7 @@ module _ (jails : List Jail) (linked : IsLinked jails) (n : ℕ) (within : n < l
   full-parent some = ap (any_full jails) (from-parent some) ∙ ap (λ b. b || any_full jails (from (path_at jails (at jails n).parent))) (tested jails linked (path_at jails n) is_full n within refl)
 
   not-from : 0 < n → list_any (path_eq (path_at jails n)) (from (path_at jails (at jails n).parent)) ≡ false
-  not-from some = ap (list_any (path_eq (path_at jails n))) (ap from (linked.linked n some within) ∙ sym (above-from (path_at jails n))) ∙ not-above (path_at jails n)
+  not-from some = ap (list_any (path_eq (path_at jails n))) (over some) ∙ not-above (path_at jails n)
 
 -- nothing is counted above host
 recount-none : (f : ℕ → ℕ) (jails : List Jail) → map (recount f []) jails ≡ jails

@@ -1,11 +1,13 @@
 -- The tree of jails, as the list of them by their numbers.
-use Rattle.std.specs.Prelude.{ℕ, ◌+◌, ◌-◌, Bool, true, false, ◌&&◌, not, nat_le, List, [], ◌∷◌, ◌++◌, map, slice_index_or, Option, if◌then◌else◌}
+use Rattle.std.specs.Prelude.{◌≡◌, ◌⊎◌, ℕ, ◌+◌, ◌-◌, Bool, true, false, ◌&&◌, not, nat_le, List, [], ◌∷◌, ◌++◌, map, slice_index_or, Option, if◌then◌else◌}
 use Rattle.std.specs.List.{list_any, count_by}
 use Rattle.vn_types.specs.declared.errno.Errno.{Errno}
 use Rattle.vn_types.specs.declared.errno.Errno.TheVariants.{NoEnt, Exist, Perm}
 use Rattle.vn_types.specs.Paths.{Path, path_eq, above, parent}
 use Rattle.vn_types.specs.Refusals.{first_refusal}
 use Rattle.vn_jail.specs.declared.jail.Jail.{Jail}
+use Rattle.vn_jail.specs.declared.jail.Living.{Living}
+use Rattle.vn_jail.specs.declared.jail.Living.TheVariants.{More, Less}
 
 -- ---- one jail
 
@@ -36,6 +38,11 @@ start limit jail = record jail { limit = limit; living = 0; alive = true }
 -- it lives no more
 abbrev pub stop : Jail → Jail
 stop jail = record jail { alive = false }
+
+-- one more, or one less
+abbrev pub counted : Living → ℕ → ℕ
+counted More = λ n. n + 1
+counted Less = λ n. n - 1
 
 -- another number of living descendants, where the path is among these
 abbrev pub recount : (ℕ → ℕ) → List Path → Jail → Jail
@@ -90,6 +97,10 @@ create_refusal p jails =
 abbrev pub known : Path → List Jail → List Jail
 known p jails =
     if is_known p jails then jails else jails ++ dead_jail p (number_of (parent p) jails) ∷ []
+
+-- nothing is changed, but that the path may have its number
+abbrev pub MayKnow : Path → List Jail → List Jail → Type 0
+MayKnow p old new = (new ≡ old) ⊎ (new ≡ known p old)
 
 -- the jail of a path changes, and its ancestors other than host count their living descendants anew
 unfoldable pub changed : (Jail → Jail) → (ℕ → ℕ) → Path → List Jail → List Jail

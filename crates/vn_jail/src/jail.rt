@@ -1,5 +1,6 @@
 ghost use Rattle.std.specs.Prelude.{◌≡◌, ◌+◌, ◌-◌, false};
-ghost use Rattle.vn_jail.specs.Tree.{is_full, start, stop};
+ghost use Rattle.vn_jail.specs.declared.jail.Living.TheVariants.{More};
+ghost use Rattle.vn_jail.specs.Tree.{counted, is_full, start, stop};
 
 use vn_types::Path;
 
@@ -13,6 +14,13 @@ pub(crate) struct Jail {
     pub(crate) limit: u32,
     pub(crate) living: u32,
     pub(crate) alive: bool,
+}
+
+/// One living descendant more, or one less.
+#[derive(Clone, Copy)]
+pub(crate) enum Living {
+    More,
+    Less,
 }
 
 impl Jail {
@@ -37,14 +45,24 @@ impl Jail {
         self.limit <= self.living
     }
 
-    pub(crate) fn count_one_more(&mut self)
+    pub(crate) fn count_one(&mut self, living: Living)
+        requires { living ≡ More → is_full self.old ≡ false }
+        ensures { self.new ≡ record self.old { living = counted living self.old.living } }
+    {
+        match living {
+            Living::More => self.count_one_more(),
+            Living::Less => self.count_one_less(),
+        }
+    }
+
+    fn count_one_more(&mut self)
         requires { is_full self.old ≡ false }
         ensures { self.new ≡ record self.old { living = self.old.living + 1 } }
     {
         self.living += 1;
     }
 
-    pub(crate) fn count_one_less(&mut self)
+    fn count_one_less(&mut self)
         ensures { self.new ≡ record self.old { living = self.old.living - 1 } }
     {
         self.living = self.living.saturating_sub(1);

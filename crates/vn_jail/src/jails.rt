@@ -3,7 +3,7 @@ ghost use Rattle.vn_types.specs.Paths.{Path as Labels, above, is_host, parent};
 ghost use Rattle.vn_types.specs.Refusals.{IsRefusedBy};
 ghost use Rattle.vn_jail.specs.Kept.{IsLinked, IsTree};
 ghost use Rattle.vn_jail.specs.Order.{IsInOrder, IsTeardown};
-ghost use Rattle.vn_jail.specs.Tree.{any_full, at, changed, create_refusal, created, host_jail, is_alive, is_known, known, number_of, path_at, remove_refusal, removed, start};
+ghost use Rattle.vn_jail.specs.Tree.{MayKnow, any_full, at, changed, create_refusal, created, host_jail, is_alive, is_known, known, number_of, path_at, remove_refusal, removed, start};
 
 use crate::counting::{begin, end, is_any_full};
 use crate::jail::Jail;
@@ -62,8 +62,7 @@ impl Jails {
         })
     }
 
-    /// Makes a jail, and answers the number of its path (jail(8), `-c`). After want of memory the path may have
-    /// its number already.
+    /// Makes a jail, and answers the number of its path (jail(8), `-c`).
     pub fn create(&mut self, path: &Path, children_max: u32) -> Reply<Sid>
         requires label { is_host path.now ≡ false }
         requires numbers { length self.old < 2 ^ 32 }
@@ -72,6 +71,7 @@ impl Jails {
         ensures created { IfOk result (λ answer. OnOk answer (self.new ≡ created path.now children_max self.old)) }
         ensures within { IfOk result (λ answer. IfOk answer (λ sid. sid.0 < length self.new)) }
         ensures refused { IfOk result (λ answer. OnErr answer (self.new ≡ self.old)) }
+        ensures no_memory { OnErr result (MayKnow path.now self.old self.new) }
         ensures numbers { length self.new ≤ length self.old + 1 }
     {
         let parent = path.parent()?;

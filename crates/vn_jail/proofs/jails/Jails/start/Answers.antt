@@ -1,31 +1,24 @@
-use Rattle.std.proofs.Common.{◌≡◌, ◌<◌, ◌≤◌, ◌+◌, [], length, drop, refl, sym, ap, ◌∙◌, subst, rules}
+use Rattle.std.proofs.Common.{◌≡◌, ◌<◌, ◌+◌, length, drop, refl, sym, ap, ◌∙◌, subst, rules}
 use Rattle.std.specs.List.{insert}
-use Rattle.std.proofs.lemmas.List.{get_or_read}
 use Rattle.vn_types.specs.Paths.{is_host, parent}
-use Rattle.vn_jail.specs.declared.jail.Jail.{Jail}
 use Rattle.vn_jail.specs.Kept.{IsKept}
-use Rattle.vn_jail.specs.Tree.{at, changed, dead_jail, is_alive, path_at, start}
+use Rattle.vn_jail.specs.Tree.{at, changed, is_alive, path_at, start}
 use Rattle.vn_jail.proofs.Changes.{long}
-use Rattle.vn_jail.proofs.Tables.{kept-started, test-same, written}
+use Rattle.vn_jail.proofs.Places.{divided}
+use Rattle.vn_jail.proofs.Tables.{kept-started, written}
 use Rattle.vn_jail.proofs.jails.Jails.start.Goals as goal
 
 pub invariant_of-self-2 : goal.invariant_of-self-2
 invariant_of-self-2 c =
     let in' : c.args.sid.0 < length c.self.inside.jails.items = subst (λ js. c.args.sid.0 < length js) (sym c.self.view_is) c.requires.number in
-    let js = c.deref.ensures.value in
-    let os = c.deref-2.ensures.value in
-    let path : c.index.result.now.path ≡ path_at c.self.inside.jails.items c.args.sid.0 = ap (λ (j : Jail). j.path) (get_or_read c.self.inside.jails.items c.args.sid.0 c.index.result.now in' c.index.ensures (dead_jail [] 0)) in
-    let same = test-same c.deref.result.now c.self.inside.jails.items c.deref-2.result.now c.self.inside.order.items c.index.result.now.path (path_at c.self.inside.jails.items c.args.sid.0) js os path in
-    let fits : c.count_before-place.result ≤ length c.self.inside.order.items = subst (λ ls. c.count_before-place.result ≤ length ls) os c.count_before-place.ensures.within in
+    let divides = divided c.deref.result.now c.self.inside.jails.items c.deref-2.result.now c.self.inside.order.items c.index.result.now c.args.sid.0 c.count_before-place.result in' c.index.ensures c.deref.ensures.value c.deref-2.ensures.value c.count_before-place.ensures.within c.count_before-place.ensures.before c.count_before-place.ensures.behind in
     let begun : c.begin.new.jails ≡ changed (start c.args.limit) (λ n. n + 1) (path_at c.self.inside.jails.items c.args.sid.0) c.self.inside.jails.items =
     c.begin.ensures ∙ ap (λ ls. changed (start c.args.limit) (λ n. n + 1) (path_at ls c.args.sid.0) ls) c.deref_mut.ensures.value in
     let size : length c.begin.new.jails ≡ c.self.inside.jails.len = ap length begun ∙ long (start c.args.limit) (λ n. n + 1) (λ j. (refl, refl)) c.self.inside.jails.items c.self.invariant.linked c.args.sid.0 in' ∙ search rules in
     let whole = written c.self.inside.jails.len c.begin.new.jails (drop (length c.begin.new.jails) c.self.inside.jails.items) size in
     let put : c.insert.new.self.items ≡ insert c.self.inside.order.items c.count_before-place.result c.args.sid = search rules in
     subst (λ ls. IsKept ls c.self.inside.numbers c.insert.new.self.items) (sym (whole ∙ begun)) (subst (λ ls. IsKept (changed (start c.args.limit) (λ n. n + 1) (path_at c.self.inside.jails.items c.args.sid.0) c.self.inside.jails.items) c.self.inside.numbers ls) (sym put)
-    (kept-started c.self.inside.jails.items c.self.inside.numbers c.self.inside.order.items c.self.invariant c.args.sid in' c.count_before-place.result fits
-    (λ k d lt. same k d ∙ c.count_before-place.ensures.before k d lt)
-    (λ k d le lt. same k d ∙ c.count_before-place.ensures.behind k d le (subst (λ ls. k < length ls) (sym os) lt))
+    (kept-started c.self.inside.jails.items c.self.inside.numbers c.self.inside.order.items c.self.invariant c.args.sid in' c.count_before-place.result divides
     c.args.limit
     (ap (λ ls. is_host (path_at ls c.args.sid.0)) c.self.view_is ∙ c.requires.jail)
     (ap (λ ls. (at ls c.args.sid.0).alive) c.self.view_is ∙ c.requires.dead)
