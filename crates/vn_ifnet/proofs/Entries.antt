@@ -1,12 +1,12 @@
 -- Entries by number: what is found, and what a filter of their values leaves.
-use Rattle.std.proofs.Common.{◌≡◌, ◌≢◌, ℕ, Bool, true, false, not, cond, ◌==◌, ◌||◌, eqb, List, [], ◌∷◌, ◌++◌, find, Option, Some, None, IfSome, refl, sym, subst, ap, ◌∙◌}
+use Rattle.std.proofs.Common.{◌≡◌, ◌≢◌, ℕ, Bool, true, false, not, cond, ◌==◌, eqb, List, [], ◌∷◌, ◌++◌, Option, Some, None, IfSome, refl, sym, subst, ap, ◌∙◌}
 use Rattle.std.specs.List.{AllByRecursion, IsDistinct, filter, list_any}
 use Rattle.std.specs.BTreeMap.{is_at}
 use Rattle.std.specs.Cmp.{unsigned_ties}
 use Rattle.std.specs.Ordering.{nat_cmp}
 use Rattle.std.specs.Map.{keys_of, lookup, values_of, remove_entry}
 use Rattle.std.specs.Option.{is_some, option_map}
-use Rattle.std.proofs.lemmas.Bool.{eqb-true, eq-eqb, ne_eqb, or_from, or_parts, or_right, cond-true, cond-false, false≢true}
+use Rattle.std.proofs.lemmas.Bool.{eqb-true, eq-eqb, ne_eqb, or_from, or_parts, cond-true, cond-false, false≢true}
 use Rattle.std.proofs.lemmas.Map.Made.{is_some-lookup}
 use Rattle.indexmap.specs.IndexMap.{insert_entry}
 use Rattle.vn_ifnet.specs.Kept.{at}
@@ -89,46 +89,23 @@ module _ {V : Type 0} where
           ∙ sym (cond-false (not (test e.1)) (e.1 ∷ filter (λ v. not (test v)) (values_of es)) (filter (λ v. not (test v)) (values_of es)) (ap not (all.0 ∙ is)))
       by false is rest = ap (λ vs. e.1 ∷ vs) rest ∙ sym (cond-true (not (test e.1)) (e.1 ∷ filter (λ v. not (test v)) (values_of es)) (filter (λ v. not (test v)) (values_of es)) (ap not (all.0 ∙ is)))
 
-  -- what is found under a number is among the values
-  pub any-value : (test : V → Bool) (k : ℕ) (es : List (ℕ × V)) (v : V) → at k es ≡ Some v → test v ≡ true → list_any test (values_of es) ≡ true
-  any-value test k [] v is passes = cc
-  any-value test k (e ∷ es) v is passes = by (k == e.0) refl (λ h. any-value test k es v h passes)
+  -- what is put in last stays last where another number is taken out
+  pub remove-append : (test : ℕ → Bool) (es : List (ℕ × V)) (e : ℕ × V) → test e.0 ≡ false → remove_entry test (es ++ e ∷ []) ≡ remove_entry test es ++ e ∷ []
+  remove-append test [] e fails = ap (λ b. cond b [] (e ∷ [])) fails
+  remove-append test (x ∷ es) e fails = by (test x.0) (remove-append test es e fails)
     where
-      by : (b : Bool) → (k == e.0) ≡ b → (at k es ≡ Some v → list_any test (values_of es) ≡ true) → (test e.1 || list_any test (values_of es)) ≡ true
-      by true same more =
-          let one : Some e.1 ≡ Some v = sym (cond-true (k == e.0) (Some e.1) (at k es) same) ∙ is in
-          let v' : e.1 ≡ v = cc in
-          ap (λ b. b || list_any test (values_of es)) (ap test v' ∙ passes)
-      by false other more = or_right (test e.1) (list_any test (values_of es)) (more (sym (cond-false (k == e.0) (Some e.1) (at k es) other) ∙ is))
+      by : (b : Bool) → remove_entry test (es ++ e ∷ []) ≡ remove_entry test es ++ e ∷ [] → cond b (es ++ e ∷ []) (x ∷ remove_entry test (es ++ e ∷ [])) ≡ cond b es (x ∷ remove_entry test es) ++ e ∷ []
+      by true more = refl
+      by false more = ap (λ xs. x ∷ xs) more
 
--- ---- filters
-
-module _ {X : Type 0} where
-  pub filter-all : (test : X → Bool) (xs : List X) → list_any test xs ≡ false → filter (λ x. not (test x)) xs ≡ xs
-  filter-all test [] none = refl
-  filter-all test (x ∷ xs) none =
-      let parts = or_parts (test x) (list_any test xs) none in
-      cond-true (not (test x)) (x ∷ filter (λ x. not (test x)) xs) (filter (λ x. not (test x)) xs) (ap not parts.0) ∙ ap (λ ys. x ∷ ys) (filter-all test xs parts.1)
-
-  pub any-filter : (test : X → Bool) (xs : List X) → list_any test (filter (λ x. not (test x)) xs) ≡ false
-  any-filter test [] = refl
-  any-filter test (x ∷ xs) = by (test x) refl (any-filter test xs)
+  -- and is taken out again
+  pub remove-pushed : (k : ℕ) (v : V) (es : List (ℕ × V)) → at k es ≡ None → remove_entry (λ q. k == q) (es ++ (k, v) ∷ []) ≡ es
+  remove-pushed k v [] none = ap (λ b. cond b [] ((k, v) ∷ [])) (eq-eqb k k refl)
+  remove-pushed k v (e ∷ es) none = by (k == e.0) none (remove-pushed k v es)
     where
-      by : (b : Bool) → test x ≡ b → list_any test (filter (λ x. not (test x)) xs) ≡ false → list_any test (cond (not b) (x ∷ filter (λ x. not (test x)) xs) (filter (λ x. not (test x)) xs)) ≡ false
-      by true is rest = rest
-      by false is rest = ap (λ b. b || list_any test (filter (λ x. not (test x)) xs)) is ∙ rest
-
-  pub find-filter : (test keeps : X → Bool) (xs : List X) → find test xs ≡ None → find test (filter keeps xs) ≡ None
-  find-filter test keeps [] none = refl
-  find-filter test keeps (x ∷ xs) none = by (test x) refl none (λ h. find-filter test keeps xs h)
-    where
-      by : (b : Bool) → test x ≡ b → cond b (Some x) (find test xs) ≡ None → (find test xs ≡ None → find test (filter keeps xs) ≡ None) → find test (filter keeps (x ∷ xs)) ≡ None
-      by true is h more = cc
-      by false is h more = also (keeps x) (more h)
-        where
-          also : (k : Bool) → find test (filter keeps xs) ≡ None → find test (cond k (x ∷ filter keeps xs) (filter keeps xs)) ≡ None
-          also true f = ap (λ b. cond b (Some x) (find test (filter keeps xs))) is ∙ f
-          also false f = f
+      by : (b : Bool) → cond b (Some e.1) (at k es) ≡ None → (at k es ≡ None → remove_entry (λ q. k == q) (es ++ (k, v) ∷ []) ≡ es) → cond b (es ++ (k, v) ∷ []) (e ∷ remove_entry (λ q. k == q) (es ++ (k, v) ∷ [])) ≡ e ∷ es
+      by true h more = cc
+      by false h more = ap (λ xs. e ∷ xs) (more h)
 
 pub map-none : {X Y : Type 0} (f : X → Y) (o : Option X) → option_map f o ≡ None → o ≡ None
 map-none f None e = refl

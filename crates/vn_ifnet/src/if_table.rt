@@ -26,14 +26,6 @@ impl Model for IfTable {
     ghost view = { λ a. a.stacks };
 }
 
-impl Standing for IfTable {
-    ghost stands = { λ table sid name. is_some (named name (of table sid.0)) };
-
-    fn stands(&self, sid: Sid, name: IfName) -> bool {
-        self.find(sid, name).is_some()
-    }
-}
-
 impl IfTable {
     /// A table in which nothing stands and no name is reserved.
     pub fn new(alloc: Global) -> Result<IfTable, NoMemory>
@@ -44,10 +36,11 @@ impl IfTable {
         })
     }
 
-    /// Attaches an interface to a stack under a name, behind all others.
+    /// Attaches an interface to a stack under a name, behind all others. A name that it had there is free again.
     pub fn attach(&mut self, sid: Sid, what: If, name: IfName) -> Result<(), NoMemory>
         requires { named name (of self.old sid.0) ≡ None }
         ensures attached { OnOk result (of self.new sid.0 ≡ with_last what name (of self.old sid.0)) }
+        ensures no_memory { OnErr result (of self.new sid.0 ≡ of self.old sid.0) }
         ensures others { ChangesOnly sid.0 (of self.old) (of self.new) }
     {
         self.stacks.at_or_new(sid)?.attach(what, name)
@@ -125,5 +118,13 @@ impl IfTable {
             (slice_get (of self.now sid.0).attached place) }
     {
         self.stacks.at(sid)?.at(place)
+    }
+}
+
+impl Standing for IfTable {
+    ghost stands = { λ table sid name. is_some (named name (of table sid.0)) };
+
+    fn stands(&self, sid: Sid, name: IfName) -> bool {
+        self.find(sid, name).is_some()
     }
 }

@@ -1,7 +1,5 @@
-ghost use Rattle.std.specs.Prelude.{◌≡◌, ◌≢◌, ◌≤◌, ℕ, false, Some, None, OnOk, OnErr, length, slice_get};
-ghost use Rattle.std.specs.List.{list_any};
+ghost use Rattle.std.specs.Prelude.{◌≡◌, ◌≢◌, ◌≤◌, ℕ, Some, None, OnOk, OnErr, length, slice_get};
 ghost use Rattle.std.specs.Option.{option_map};
-ghost use Rattle.vn_types.specs.Interfaces.{half_id_eq, if_same};
 ghost use Rattle.vn_types.specs.declared.interface.IfName.{IfName as Spelt};
 ghost use Rattle.vn_ifnet.specs.declared.interfaces.Attached.{Attached as Entry};
 ghost use Rattle.vn_ifnet.specs.Names.{name_number, if_number, side_number};
@@ -90,32 +88,31 @@ fn if_number(what: If) -> u64
 impl Interfaces {
     pub(crate) fn attach(&mut self, what: If, name: IfName) -> Result<(), NoMemory>
         requires { named name self.old ≡ None }
-        ensures { OnOk result (self.new ≡ with_last what name self.old) }
-    {
-        self.detach(what);
-        self.add(what, name)
-    }
-
-    /// Attaches an interface that isn't attached.
-    fn add(&mut self, what: If, name: IfName) -> Result<(), NoMemory>
-        requires name { named name self.old ≡ None }
-        requires what { list_any (λ (a : Entry). if_same half_id_eq a.what what) self.old.attached ≡ false }
-        ensures { OnOk result (self.new ≡ with_last what name self.old) }
+        ensures attached { OnOk result (self.new ≡ with_last what name self.old) }
+        ensures kept { OnErr result (self.new ≡ self.old) }
     {
         let number = name_number(name);
-        self.places.insert(if_number(what), number)?;
         let Ok(_) = self.attached.insert(number, Attached { what, name }) else {
-            self.places.remove(&if_number(what));
             return Err(NoMemory);
         };
-        Ok(())
+        match self.places.insert(if_number(what), number) {
+            Ok(Some(before)) => {
+                self.attached.shift_remove(&before);
+                Ok(())
+            }
+            Ok(None) => Ok(()),
+            Err(_) => {
+                self.attached.shift_remove(&number);
+                Err(NoMemory)
+            }
+        }
     }
 
     pub(crate) fn detach(&mut self, what: If)
         ensures { self.new ≡ record self.old { attached = without what self.old.attached } }
     {
-        if let Some(number) = self.places.remove(&if_number(what)) {
-            self.attached.shift_remove(&number);
+        if let Some(name) = self.places.remove(&if_number(what)) {
+            self.attached.shift_remove(&name);
         }
     }
 

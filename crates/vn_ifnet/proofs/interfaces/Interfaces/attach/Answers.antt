@@ -1,29 +1,64 @@
-use Rattle.std.proofs.Common.{◌≡◌, not, ◌++◌, ◌∷◌, [], OnOk, subst, ap, ◌∙◌}
-use Rattle.std.specs.List.{list_any}
-use Rattle.vn_types.specs.Interfaces.{half_id_eq, if_same}
-use Rattle.vn_rules.specs.Named.{ifname_eq}
-use Rattle.vn_ifnet.specs.declared.interfaces.Attached.{Attached}
-use Rattle.vn_ifnet.specs.Stacks.{named, with_last, without, Held}
-use Rattle.vn_ifnet.proofs.Entries.{any-filter, filter-all, find-filter, map-none}
-use Rattle.std.specs.Option.{option_map}
+use Rattle.std.proofs.Common.{◌≡◌, cond, ◌==◌, None, Some, sym, subst, ap, ap₂, ◌∙◌}
+use Rattle.std.specs.Cmp.{unsigned_ties}
+use Rattle.std.specs.Map.{values_of, remove_entry}
+use Rattle.vn_ifnet.specs.Names.{if_number, name_number}
+use Rattle.vn_ifnet.specs.Stacks.{named, with_last}
+use Rattle.vn_ifnet.specs.Kept.{IsIndexed, at, told}
+use Rattle.vn_ifnet.proofs.Entries.{remove-pushed}
+use Rattle.vn_ifnet.proofs.Indexed.{indexed-come, put-last, values-come}
 use Rattle.vn_ifnet.proofs.interfaces.Interfaces.attach.Goals as goal
 
-pub add-requires-clause-name : goal.add-requires-clause-name
-add-requires-clause-name c =
-    ap (named c.args.name) c.detach.ensures
-    ∙ ap (option_map (λ (a : Attached). a.what)) (find-filter (λ (a : Attached). ifname_eq a.name c.args.name) (λ (a : Attached). not (if_same half_id_eq a.what c.args.what)) c.args.self.now.attached (map-none (λ (a : Attached). a.what) _ c.requires))
+pub invariant_of-self-in-Ok-Some : goal.invariant_of-self-in-Ok-Some
+invariant_of-self-in-Ok-Some c =
+    let es = c.self.inside.attached.entries in
+    let put = put-last c.args.what c.args.name es _ c.name_number-number.result c.self.invariant.keyed (ap (named c.args.name) c.self.view_is ∙ c.requires) c.name_number-number.ensures c.in-Ok.ensures.entries in
+    let before : told (if_number c.args.what) c.self.inside.places.entries ≡ Some c.in-Ok-Some.before = ap (λ w. told w c.self.inside.places.entries) (sym c.if_number.ensures) ∙ sym c.in-Ok-Some.ensures.old ∙ c.in-Ok-Some.field-0-is in
+    indexed-come es c.self.inside.places.entries c.self.invariant c.args.what c.args.name put.0 (Some c.in-Ok-Some.before) before c.shift_remove.new.self.entries c.insert-2.new.self.entries
+    (c.shift_remove.ensures.entries ∙ ap (remove_entry (λ q. c.in-Ok-Some.before == q)) put.1) c.shift_remove.ensures.unique
+    (λ k. c.shift_remove.ensures.updates.0 k ∙ ap (λ o. cond (c.in-Ok-Some.before == k) None o) (c.in-Ok.ensures.updates.0 k
+    ∙ ap (λ n. cond (n == k) (Some (record { what = c.args.what; name = c.args.name })) (at k es)) c.name_number-number.ensures))
+    (λ w. c.in-Ok-Some.ensures.updates.0 w ∙ ap (λ b. cond b (Some c.name_number-number.result) (told w c.self.inside.places.entries)) (sym (unsigned_ties c.if_number.result w))
+    ∙ ap₂ (λ v n. cond (v == w) (Some n) (told w c.self.inside.places.entries)) c.if_number.ensures c.name_number-number.ensures)
 
-pub add-requires-clause-what : goal.add-requires-clause-what
-add-requires-clause-what c =
-    ap (λ (h : Held). list_any (λ (a : Attached). if_same half_id_eq a.what c.args.what) h.attached) c.detach.ensures
-    ∙ any-filter (λ (a : Attached). if_same half_id_eq a.what c.args.what) c.args.self.now.attached
+pub invariant_of-self-in-Ok-None : goal.invariant_of-self-in-Ok-None
+invariant_of-self-in-Ok-None c =
+    let es = c.self.inside.attached.entries in
+    let put = put-last c.args.what c.args.name es _ c.name_number-number.result c.self.invariant.keyed (ap (named c.args.name) c.self.view_is ∙ c.requires) c.name_number-number.ensures c.in-Ok.ensures.entries in
+    let before : told (if_number c.args.what) c.self.inside.places.entries ≡ None = ap (λ w. told w c.self.inside.places.entries) (sym c.if_number.ensures) ∙ sym c.in-Ok-None.ensures.old ∙ c.in-Ok-None.field-0-is in
+    indexed-come es c.self.inside.places.entries c.self.invariant c.args.what c.args.name put.0 None before c.insert.new.self.entries c.insert-2.new.self.entries put.1 c.insert.ensures.unique
+    (λ k. c.in-Ok.ensures.updates.0 k ∙ ap (λ n. cond (n == k) (Some (record { what = c.args.what; name = c.args.name })) (at k es)) c.name_number-number.ensures)
+    (λ w. c.in-Ok-None.ensures.updates.0 w ∙ ap (λ b. cond b (Some c.name_number-number.result) (told w c.self.inside.places.entries)) (sym (unsigned_ties c.if_number.result w))
+    ∙ ap₂ (λ v n. cond (v == w) (Some n) (told w c.self.inside.places.entries)) c.if_number.ensures c.name_number-number.ensures)
 
-pub returns : goal.returns
-returns c =
-    let same : with_last c.args.what c.args.name c.detach.new.self ≡ with_last c.args.what c.args.name c.args.self.now =
-    ap (with_last c.args.what c.args.name) c.detach.ensures
-    ∙ (λ i. record {
-      attached = filter-all (λ (a : Attached). if_same half_id_eq a.what c.args.what) (without c.args.what c.args.self.now.attached) (any-filter (λ (a : Attached). if_same half_id_eq a.what c.args.what) c.args.self.now.attached) i ++ record { what = c.args.what; name = c.args.name } ∷ [];
-      reserved = c.args.self.now.reserved;
-    }) in
-    subst (λ (h : Held). OnOk c.add.result (c.add.new.self ≡ h)) same c.add.ensures
+pub invariant_of-self-in-Err : goal.invariant_of-self-in-Err
+invariant_of-self-in-Err c =
+    let es = c.self.inside.attached.entries in
+    let put = put-last c.args.what c.args.name es _ c.name_number-number.result c.self.invariant.keyed (ap (named c.args.name) c.self.view_is ∙ c.requires) c.name_number-number.ensures c.in-Ok.ensures.entries in
+    let back : c.shift_remove-in-Err.new.self.entries ≡ es =
+    c.shift_remove-in-Err.ensures.entries ∙ ap₂ (λ n xs. remove_entry (λ q. n == q) xs) c.name_number-number.ensures put.1 ∙ remove-pushed (name_number c.args.name) _ es put.0 in
+    subst (λ xs. IsIndexed xs c.insert-2.new.self.entries) (sym back) (subst (IsIndexed es) (sym c.in-Err.ensures.err) c.self.invariant)
+
+pub returns-in-Ok-Some-clause-attached : goal.returns-in-Ok-Some-clause-attached
+returns-in-Ok-Some-clause-attached c =
+    let es = c.self.inside.attached.entries in
+    let put = put-last c.args.what c.args.name es _ c.name_number-number.result c.self.invariant.keyed (ap (named c.args.name) c.self.view_is ∙ c.requires) c.name_number-number.ensures c.in-Ok.ensures.entries in
+    let before : told (if_number c.args.what) c.self.inside.places.entries ≡ Some c.in-Ok-Some.before = ap (λ w. told w c.self.inside.places.entries) (sym c.if_number.ensures) ∙ sym c.in-Ok-Some.ensures.old ∙ c.in-Ok-Some.field-0-is in
+    let values = values-come es c.self.inside.places.entries c.self.invariant c.args.what c.args.name put.0 (Some c.in-Ok-Some.before) before c.shift_remove.new.self.entries
+    (c.shift_remove.ensures.entries ∙ ap (remove_entry (λ q. c.in-Ok-Some.before == q)) put.1) in
+    (λ i. record { attached = values i; reserved = c.self.inside.reserved.entries }) ∙ ap (with_last c.args.what c.args.name) c.self.view_is
+
+pub returns-in-Ok-None-clause-attached : goal.returns-in-Ok-None-clause-attached
+returns-in-Ok-None-clause-attached c =
+    let es = c.self.inside.attached.entries in
+    let put = put-last c.args.what c.args.name es _ c.name_number-number.result c.self.invariant.keyed (ap (named c.args.name) c.self.view_is ∙ c.requires) c.name_number-number.ensures c.in-Ok.ensures.entries in
+    let before : told (if_number c.args.what) c.self.inside.places.entries ≡ None = ap (λ w. told w c.self.inside.places.entries) (sym c.if_number.ensures) ∙ sym c.in-Ok-None.ensures.old ∙ c.in-Ok-None.field-0-is in
+    let values = values-come es c.self.inside.places.entries c.self.invariant c.args.what c.args.name put.0 None before c.insert.new.self.entries put.1 in
+    (λ i. record { attached = values i; reserved = c.self.inside.reserved.entries }) ∙ ap (with_last c.args.what c.args.name) c.self.view_is
+
+pub returns-in-Err-clause-kept : goal.returns-in-Err-clause-kept
+returns-in-Err-clause-kept c =
+    let es = c.self.inside.attached.entries in
+    let put = put-last c.args.what c.args.name es _ c.name_number-number.result c.self.invariant.keyed (ap (named c.args.name) c.self.view_is ∙ c.requires) c.name_number-number.ensures c.in-Ok.ensures.entries in
+    let back : c.shift_remove-in-Err.new.self.entries ≡ es =
+    c.shift_remove-in-Err.ensures.entries ∙ ap₂ (λ n xs. remove_entry (λ q. n == q) xs) c.name_number-number.ensures put.1 ∙ remove-pushed (name_number c.args.name) _ es put.0 in
+    (λ i. record { attached = values_of (back i); reserved = c.self.inside.reserved.entries }) ∙ c.self.view_is
