@@ -1,10 +1,10 @@
 -- Gateway routes that stand on no interface route any more are taken out one after another.
-use Rattle.std.proofs.Common.{◌≡◌, Bool, true, false, cond, not, ◌&&◌, ◌||◌, List, [], ◌∷◌, Option, Some, None, IsSome, is_some, suc, ◌<◌, length, refl, sym, ap, ◌∙◌, arith}
+use Rattle.std.proofs.Common.{◌≡◌, Bool, true, false, cond, not, ◌&&◌, ◌||◌, List, [], ◌∷◌, Option, Some, None, IsSome, is_some, suc, ◌<◌, length, refl, sym, subst, ap, ◌∙◌, arith}
 use Rattle.std.specs.List.{Contains, list_any, filter, find}
 use Rattle.std.specs.Option.{option_map, unwrap_or}
-use Rattle.std.specs.Map.{lookup as value_at, remove_entry}
+use Rattle.std.specs.Map.{keys_of, lookup as value_at, remove_entry}
 use Rattle.std.specs.BTreeMap.{is_at}
-use Rattle.std.proofs.lemmas.Bool.{false≢true}
+use Rattle.std.proofs.lemmas.Bool.{and_parts, false≢true}
 use Rattle.std.proofs.lemmas.List.Elements.{Contains-append_left, Contains-append_right}
 use Rattle.vn_types.specs.declared.address.Ip4.{Ip4}
 use Rattle.vn_types.specs.declared.address.Prefix.{Prefix}
@@ -14,10 +14,13 @@ use Rattle.vn_types.specs.Interfaces.{if_same}
 use Rattle.vn_rules.specs.declared.route.TargetOf.{TargetOf}
 use Rattle.vn_rules.specs.declared.route.TargetOf.TheVariants.{Link, Gateway}
 use Rattle.vn_rules.specs.Networks.{lies_in}
-use Rattle.vn_rules.specs.Orders.{are_routes}
+use Rattle.vn_rules.specs.Orders.{are_rising, are_routes}
 use Rattle.vn_rules.specs.Routes.{Routed, prefix_cmp, route_at, longest, longest_among, is_link_on, covers, is_stranded, without_stranded}
-use Rattle.vn_rules.proofs.ListTests.{all_kept, find_passes}
+use Rattle.vn_rules.proofs.ListTests.{absent-none, all_kept, find_passes}
+use Rattle.vn_rules.proofs.OrderLaws.{prefix_cmp_total}
 use Rattle.vn_rules.proofs.RouteChoice.{route_at-stands}
+use Rattle.vn_route.specs.Behind.{is_behind}
+use Rattle.vn_route.proofs.Behind.{next-follows}
 
 -- ---- lists
 
@@ -29,14 +32,6 @@ module _ {X : Type 0} (p : X → Bool) where
       by : (b : Bool) → cond b (Some y) (find p ys) ≡ Some x → (find p ys ≡ Some x → Contains ys x) → Contains (y ∷ ys) x
       by true is more = Contains-append_left (y ∷ []) ys x (0, omega arith, (let same : y ≡ x = cc in same))
       by false is more = Contains-append_right (y ∷ []) ys x (more is)
-
-  none-found : (xs : List X) → find p xs ≡ None → list_any p xs ≡ false
-  none-found [] none = refl
-  none-found (y ∷ ys) none = by (p y) none (none-found ys)
-    where
-      by : (b : Bool) → cond b (Some y) (find p ys) ≡ None → (find p ys ≡ None → list_any p ys ≡ false) → (b || list_any p ys) ≡ false
-      by true none more = cc
-      by false none more = more none
 
 module _ {K V : Type 0} (test : K → Bool) (p : K × V → Bool) where
   -- an entry that fails a test is of no account to it
@@ -69,6 +64,10 @@ module _ {K V : Type 0} (test : K → Bool) where
       by false there more = let less = more there in omega arith
 
 -- ---- routes
+
+rising : {N : Type 0} (es : List (Routed N)) → are_routes es ≡ true → are_rising prefix_cmp (keys_of es) ≡ true
+unfolding are_routes
+rising es right = (and_parts (are_rising prefix_cmp (keys_of es)) _ right).0
 
 module _ {N : Type 0} (same : N → N → Bool) where
   -- an interface route covers the address where the longest of them is found
@@ -110,22 +109,44 @@ module _ {N : Type 0} (same : N → N → Bool) where
     abbrev stranded_in : List (Routed N) → Routed N → Bool
     stranded_in es e = is_stranded same on es e.1
 
-    pub stranded-removed : (es : List (Routed N)) (to : Prefix) → are_routes es ≡ true → Some to ≡ option_map (λ (e : Routed N). e.0) (find (stranded_in es) es)
-        → (without_stranded same on (remove_entry (is_at (prefix_cmp to)) es) ≡ without_stranded same on es) × IsSome (route_at to es)
+    abbrev gone : Prefix → List (Routed N) → List (Routed N)
+    gone to es = remove_entry (is_at (prefix_cmp to)) es
+
+    -- what holds after the first of them is taken out
+    pub record IsOneLess (to : Prefix) (es : List (Routed N)) : Type 0 where
+      pub same_stay : without_stranded same on (gone to es) ≡ without_stranded same on es
+      pub was_there : IsSome (route_at to es)
+      pub next_behind : find (stranded_in (gone to es)) (gone to es) ≡ find (λ (e : Routed N). is_behind (Some to) e.0 && stranded_in (gone to es) e) (gone to es)
+
+    pub stranded-removed : (es : List (Routed N)) (to : Prefix) → are_routes es ≡ true → Some to ≡ option_map (λ (e : Routed N). e.0) (find (stranded_in es) es) → IsOneLess to es
     stranded-removed es to right found = by (find (stranded_in es) es) refl found
       where
-        by : (o : Option (Routed N)) → find (stranded_in es) es ≡ o → Some to ≡ option_map (λ (e : Routed N). e.0) o
-            → (without_stranded same on (remove_entry (is_at (prefix_cmp to)) es) ≡ without_stranded same on es) × IsSome (route_at to es)
+        by : (o : Option (Routed N)) → find (stranded_in es) es ≡ o → Some to ≡ option_map (λ (e : Routed N). e.0) o → IsOneLess to es
         by None none is = cc
-        by (Some e) found is =
-            let at : to ≡ e.0 = ap (λ o. unwrap_or o to) is in
-            let there : route_at to es ≡ Some e.1 = ap (λ k. route_at k es) at ∙ route_at-stands es right e (found-stands (stranded_in es) es e found) in
-            (removed (is_at (prefix_cmp to)) es e.1 there (find_passes (stranded_in es) es e found), ap is_some there)
+        by (Some e) found is = subst (λ k. IsOneLess k es) at (record {
+          same_stay = removed (is_at (prefix_cmp e.0)) es e.1 there stranded;
+          was_there = ap is_some there;
+          next_behind = ap (λ (f : Routed N → Bool). find f (gone e.0 es)) tests
+              ∙ next-follows prefix_cmp prefix_cmp_total (stranded_in es) es e (rising es right) found
+              ∙ sym (ap (λ (f : Routed N → Bool). find (λ (x : Routed N). is_behind (Some e.0) x.0 && f x) (gone e.0 es)) tests);
+        })
+          where
+            at : e.0 ≡ to
+            at = sym (ap (λ o. unwrap_or o to) is)
+
+            there : route_at e.0 es ≡ Some e.1
+            there = route_at-stands es right e (found-stands (stranded_in es) es e found)
+
+            stranded : is_stranded same on es e.1 ≡ true
+            stranded = find_passes (stranded_in es) es e found
+
+            tests : stranded_in (gone e.0 es) ≡ stranded_in es
+            tests = λ i x. stranded-remove (is_at (prefix_cmp e.0)) es e.1 there stranded x.1 i
 
     -- where there is none, all stay
     pub none-stranded : (es : List (Routed N)) → None ≡ option_map (λ (e : Routed N). e.0) (find (stranded_in es) es) → es ≡ without_stranded same on es
     none-stranded es none = by (find (stranded_in es) es) refl none
       where
         by : (o : Option (Routed N)) → find (stranded_in es) es ≡ o → None ≡ option_map (λ (e : Routed N). e.0) o → es ≡ without_stranded same on es
-        by None is none = sym (all_kept (stranded_in es) es (none-found (stranded_in es) es is))
+        by None is none = sym (all_kept (stranded_in es) es (absent-none (stranded_in es) es is))
         by (Some e) is none = cc

@@ -1,3 +1,4 @@
 pub mod Lengths
+pub mod Behind
 pub mod Leaving
 pub mod Choice

@@ -1,10 +1,11 @@
 ghost use Rattle.std.specs.Prelude.{◌≡◌, ◌≤◌, true, [], Some, OnOk, OnErr};
+ghost use Rattle.std.specs.BTreeMap.{insert_entry};
 ghost use Rattle.std.specs.Option.{option_map};
 ghost use Rattle.vn_types.specs.Interfaces.{half_id_eq};
 ghost use Rattle.vn_rules.specs.declared.route.TargetOf.TheVariants.{Gateway};
 ghost use Rattle.vn_rules.specs.Networks.{is_network};
 ghost use Rattle.vn_rules.specs.Orders.{are_routes};
-ghost use Rattle.vn_rules.specs.Routes.{route_at, nth_route, longest_among, covers, can_link, after_link, with_gateway, after_delete, after_unlink, after_purge_routes};
+ghost use Rattle.vn_rules.specs.Routes.{prefix_cmp, route_at, nth_route, longest_among, covers, can_link, after_link, with_gateway, after_delete, after_unlink, after_purge_routes};
 ghost use Rattle.vn_route.specs.Lengths.{as_route};
 ghost use Rattle.vn_route.specs.Wanted.{is_wanted};
 
@@ -87,8 +88,7 @@ impl Fib {
         ensures linked { OnOk result (self.new ≡ after_link to on self.old) }
         ensures kept { OnErr result (self.new ≡ self.old) }
     {
-        self.routes.insert(Network::of(to), Target::Link(on))?;
-        Ok(())
+        self.put(to, Target::Link(on))
     }
 
     pub(crate) fn add(&mut self, to: Prefix, via: Ip4, on: HalfId) -> Result<(), NoMemory>
@@ -96,8 +96,16 @@ impl Fib {
         ensures added { OnOk result (self.new ≡ with_gateway to via (Some on) self.old) }
         ensures kept { OnErr result (self.new ≡ self.old) }
     {
-        self.routes
-            .insert(Network::of(to), Target::Gateway { via, on })?;
+        self.put(to, Target::Gateway { via, on })
+    }
+
+    /// Puts a route in, in the place of another one to the prefix.
+    fn put(&mut self, to: Prefix, target: Target) -> Result<(), NoMemory>
+        requires { is_network to ≡ true }
+        ensures put { OnOk result (self.new ≡ insert_entry prefix_cmp self.old to target) }
+        ensures kept { OnErr result (self.new ≡ self.old) }
+    {
+        self.routes.insert(Network::of(to), target)?;
         Ok(())
     }
 

@@ -1,14 +1,16 @@
-ghost use Rattle.std.specs.Prelude.{◌≡◌, true};
+ghost use Rattle.std.specs.Prelude.{◌≡◌, ◌&&◌, true};
 ghost use Rattle.std.specs.List.{find};
 ghost use Rattle.std.specs.Option.{option_map};
 ghost use Rattle.vn_types.specs.Interfaces.{half_id_eq};
 ghost use Rattle.vn_rules.specs.Orders.{are_routes};
 ghost use Rattle.vn_rules.specs.Routes.{covers, is_stranded, without_link, without_stranded};
+ghost use Rattle.vn_route.specs.Behind.{bound_behind, is_behind};
 
 use crate::network::Network;
 use crate::search::longest;
 use crate::wanted::{Wanted, is_link_on};
 use std::collections::BTreeMap;
+use std::ops::Bound;
 use vn_rules::Target;
 use vn_types::{If, Ip4, Prefix};
 
@@ -28,26 +30,40 @@ pub(crate) fn drop_link(routes: &mut BTreeMap<Network, Target>, to: Prefix, on: 
     routes.retain(|network, target| !(to == *network && is_link_on(*target, on)));
 }
 
-/// Takes out the gateway routes on the interface whose gateway none of its interface routes covers.
+/// Takes out the gateway routes on the interface whose gateway none of its interface routes covers. It looks
+/// at each route once.
 pub(crate) fn drop_stranded(routes: &mut BTreeMap<Network, Target>, on: If)
     requires { are_routes routes.old.entries ≡ true }
     ensures { routes.new.entries ≡ without_stranded half_id_eq on routes.old.entries }
 {
-    while let Some(to) = first_stranded(routes, on) {
+    let mut last = None;
+    while let Some(to) = next_stranded(routes, on, last) {
         routes.remove(&Network::of(to));
+        last = Some(to);
     }
 }
 
-/// The first prefix to which such a route leads.
-fn first_stranded(routes: &BTreeMap<Network, Target>, on: If) -> Option<Prefix>
+/// The first prefix behind the last one to which such a route leads.
+fn next_stranded(routes: &BTreeMap<Network, Target>, on: If, last: Option<Prefix>) -> Option<Prefix>
     requires { are_routes routes.now.entries ≡ true }
-    ensures { result ≡ option_map (λ e. e.0)
-        (find (λ e. is_stranded half_id_eq on routes.now.entries e.1) routes.now.entries) }
+    ensures { result ≡ option_map (λ e. e.0) (find
+        (λ e. is_behind last e.0 && is_stranded half_id_eq on routes.now.entries e.1)
+        routes.now.entries) }
 {
     let (network, _) = routes
-        .iter()
+        .range((bound_behind(last), Bound::Unbounded))
         .find(|(_, target)| is_stranded(routes, on, **target))?;
     Some(network.prefix())
+}
+
+/// Where the networks behind the last prefix begin.
+fn bound_behind(last: Option<Prefix>) -> Bound<Network>
+    ensures { result ≡ bound_behind last }
+{
+    match last {
+        Some(prefix) => Bound::Excluded(Network::of(prefix)),
+        None => Bound::Unbounded,
+    }
 }
 
 /// Whether it is a gateway route on the interface whose gateway no interface route of it covers.
