@@ -1,4 +1,11 @@
 pub mod Places
+pub mod PlaceEdits
+pub mod PortOrder
+pub mod PortRanges
+pub mod PortMoves
+pub mod PortFinds
+pub mod Indexed
 pub mod Loops
+pub mod Marks
 pub mod Kept
 pub mod Automatic

@@ -1,7 +1,9 @@
 -- A loop that changes each element of a list.
-use Rattle.std.proofs.Common.{◌≡◌, ℕ, ◌<◌, ◌≤◌, ◌+◌, List, [], ◌++◌, length, map, take, drop, get_or, set, ap, ap₂, ◌∙◌, arith}
+use Rattle.std.proofs.Common.{◌≡◌, ℕ, ◌<◌, ◌≤◌, ◌+◌, List, [], ◌++◌, length, map, take, drop, get_or, set, slice_get, Option, Some, None, IfSome, refl, sym, ap, ap₂, subst, ◌∙◌, arith}
+use Rattle.std.proofs.lemmas.Option.{get_or_from_slice_get}
 use Rattle.std.proofs.lemmas.List.{append-nil, drop_all, length-set, take_all}
 use Rattle.std.proofs.lemmas.List.Edits.{map_over_more}
+use Rattle.vn_sock.proofs.Places.{stands}
 
 module _ {X : Type 0} (f : X → X) (xs : List X) where
   -- the first so many are changed, the others are as they were
@@ -16,6 +18,14 @@ module _ {X : Type 0} (f : X → X) (xs : List X) where
         so_far = ap (set ys i) is ∙ map_over_more f xs ys i x (omega arith) c.so_far at;
         as_many = length-set ys i y ∙ many;
       }
+
+  -- the next is changed at its place
+  pub changed-at : (ys zs : List X) (i : ℕ) → AreChanged ys i → i < length ys → IfSome (slice_get ys i) (λ x. zs ≡ set ys i (f x)) → AreChanged zs (i + 1)
+  changed-at ys zs i c less is = by (slice_get ys i) refl is
+    where
+      by : (o : Option X) → slice_get ys i ≡ o → IfSome o (λ x. zs ≡ set ys i (f x)) → AreChanged zs (i + 1)
+      by None none is = absurd (stands ys i less none)
+      by (Some x) at is = subst (λ (ws : List X). AreChanged ws (i + 1)) (sym is) (changed-next ys i x (f x) c less (sym (get_or_from_slice_get ys i x x at)) refl)
 
   pub changed-all : (ys : List X) (i : ℕ) → AreChanged ys i → length ys ≤ i → ys ≡ map f xs
   changed-all ys i c past =

@@ -1,5 +1,5 @@
 -- A socket is found at a place, and changed there.
-use Rattle.std.proofs.Common.{◌≡◌, ℕ, suc, ◌<◌, ◌+◌, Bool, true, false, cond, not, ◌&&◌, ◌||◌, List, [], ◌∷◌, length, map, get_or, set, Some, None, refl, sym, ap, ◌∙◌, arith, nat_lt}
+use Rattle.std.proofs.Common.{◌≡◌, ℕ, zero, suc, ◌<◌, ◌+◌, Bool, true, false, cond, not, ◌&&◌, ◌||◌, List, [], ◌∷◌, length, map, get_or, set, Some, None, refl, sym, ap, ◌∙◌, arith, nat_lt}
 use Rattle.std.specs.Prelude.{slice_get}
 use Rattle.std.specs.List.{list_any, filter, find, position, position_or_len}
 use Rattle.std.specs.Option.{unwrap_or}
@@ -57,6 +57,12 @@ module _ {A : Type 0} (test : A → Bool) where
   edited-at f xs k d one is =
       let place = place-is xs k is in
       ap (λ i. set xs i (f (get_or xs i d))) place.first ∙ edited f xs d one (rw (sym place.first) place.within)
+
+-- within a list something stands
+pub stands : {A : Type 0} (xs : List A) (k : ℕ) → k < length xs → slice_get xs k ≡ None → ⊥
+stands [] k less none = absurd (omega arith)
+stands (x ∷ xs) zero less none = absurd (cc)
+stands (x ∷ xs) (suc k) less none = stands xs k (omega arith) none
 
 -- a test of what is kept
 pub any-filter : {A : Type 0} (keep test : A → Bool) (xs : List A) → list_any test (filter keep xs) ≡ list_any (λ x. keep x && test x) xs

@@ -2,7 +2,9 @@
 #![tactic(auto)]
 
 mod law;
+mod name_index;
 mod plan;
+mod port_index;
 mod queue;
 mod socket;
 mod sockets;

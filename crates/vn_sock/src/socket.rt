@@ -1,5 +1,4 @@
 ghost use Rattle.std.specs.Prelude.{◌≡◌, ◌↔◌, ◌∷◌, [], IsErr, IfErr, IfOk, IsTrue, OnErr, OnOk, Some, None, drop, false, is_none, slice_get, true};
-ghost use Rattle.std.specs.Option.{option_or};
 ghost use Rattle.vn_types.specs.Interfaces.{half_id_eq};
 ghost use Rattle.vn_types.specs.Refusals.{IsRefusedBy, first_refusal};
 ghost use Rattle.vn_types.specs.declared.errno.Errno.TheVariants as errno;
@@ -59,12 +58,6 @@ impl Socket {
         })
     }
 
-    pub(crate) fn is_named(&self, name: &SockName) -> bool
-        ensures { result ≡ is_named name.now self.now }
-    {
-        *name == self.name
-    }
-
     pub(crate) fn has_name_of(&self, other: &Socket) -> bool
         ensures { result ≡ is_named other.now.name self.now }
     {
@@ -101,26 +94,13 @@ impl Socket {
         self.ttl = Some(ttl);
     }
 
-    pub(crate) fn bind(&mut self, ip: Option<Ip4>, port: u16)
-        ensures { self.new ≡ record self.old { ip = ip; port = Some port } }
+    /// Has that address, port and peer.
+    pub(crate) fn settle(&mut self, ip: Option<Ip4>, port: u16, peer: Option<Peer>)
+        ensures { self.new ≡ record self.old { ip = ip; port = Some port; peer = peer } }
     {
         self.ip = ip;
         self.port = Some(port);
-    }
-
-    pub(crate) fn connect(&mut self, ip: Option<Ip4>, port: u16, peer: Peer)
-        ensures { self.new ≡ record self.old { ip = ip; port = Some port; peer = Some peer } }
-    {
-        self.ip = ip;
-        self.port = Some(port);
-        self.peer = Some(peer);
-    }
-
-    /// Has the port from which it sent, where it had none.
-    pub(crate) fn keep_port(&mut self, port: u16)
-        ensures { self.new ≡ record self.old { port = option_or self.old.port (Some port) } }
-    {
-        self.port = self.port.or(Some(port));
+        self.peer = peer;
     }
 
     /// Whether an error is pending.

@@ -9,7 +9,7 @@ ghost use Rattle.vn_sock.specs.Plans.{IsPlanOf};
 ghost use Rattle.vn_sock.specs.Stacks.{of};
 
 use crate::plan::SendPlan;
-use crate::sockets::Sockets;
+use crate::sockets::{Ends, Sockets};
 use std::alloc::Global;
 use std::marker::Model;
 use vn_rules::{Gram, Peer};
@@ -73,7 +73,7 @@ impl Socks {
         ensures others { ChangesOnly sid.0 (of self.old) (of self.new) }
     {
         match self.stacks.at_mut(sid) {
-            Some(sockets) => sockets.bind(name, ip, port, is_local),
+            Some(sockets) => sockets.bind(name, (ip, port), is_local),
             None => Err(Errno::BadF),
         }
     }
@@ -210,7 +210,12 @@ impl Socks {
         ensures others { ChangesOnly sid.0 (of self.old) (of self.new) }
     {
         match self.stacks.at_mut(sid) {
-            Some(sockets) => sockets.refuse(src, sport, dst, dport),
+            Some(sockets) => sockets.refuse(Ends {
+                src,
+                sport,
+                dst,
+                dport,
+            }),
             None => false,
         }
     }

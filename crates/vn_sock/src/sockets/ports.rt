@@ -1,10 +1,10 @@
-ghost use Rattle.std.specs.Prelude.{◌≡◌, IfOk, OnErr, OnOk, Some};
-ghost use Rattle.std.specs.Option.{ForSome, option_or};
+ghost use Rattle.std.specs.Prelude.{◌≡◌, ◌<◌, ◌&&◌, false, not, IfOk, IfSome, OnErr, OnOk, Some, length, slice_get, slice_set};
+ghost use Rattle.std.specs.Option.{ForSome, option_map_or, option_or};
 ghost use Rattle.std.specs.Result.{result_ok};
 ghost use Rattle.vn_types.specs.Refusals.{IsRefusedBy, first_refusal};
-ghost use Rattle.vn_rules.specs.Ports.{automatic_port, is_port_free};
+ghost use Rattle.vn_rules.specs.Ports.{automatic_port, conflicts, is_port_free};
 ghost use Rattle.vn_rules.specs.SocketRefusals.{bind_refusals, connect_refusals, is_bad};
-ghost use Rattle.vn_rules.specs.Sockets.{after_bind, after_connect, after_sent, others, port_asked, port_at, socket_named};
+ghost use Rattle.vn_rules.specs.Sockets.{after_bind, after_connect, after_sent, is_named, others, port_asked, port_at, socket_named};
 
 use crate::socket::Socket;
 use crate::sockets::Sockets;
@@ -17,27 +17,25 @@ const FIRST_DYNAMIC: u16 = 49_152;
 /// The number of the dynamic ports.
 const DYNAMIC: u16 = 16_384;
 
+/// A local address or none, and a port.
+type End = (Option<Ip4>, u16);
+
 impl Sockets {
-    pub(crate) fn bind(
-        &mut self,
-        name: &SockName,
-        ip: Option<Ip4>,
-        port: u16,
-        is_local: bool,
-    ) -> Result<(), Errno>
+    pub(crate) fn bind(&mut self, name: &SockName, end: End, is_local: bool) -> Result<(), Errno>
         ensures answer { IsRefusedBy
-            (first_refusal (bind_refusals name.now ip port is_local self.old)) result }
-        ensures bound { OnOk result (self.new ≡ after_bind name.now ip port self.old) }
+            (first_refusal (bind_refusals name.now end.0 end.1 is_local self.old)) result }
+        ensures bound { OnOk result (self.new ≡ after_bind name.now end.0 end.1 self.old) }
         ensures refused { OnErr result (self.new ≡ self.old) }
     {
         let Some(place) = self.place_of(name) else {
             return Err(Errno::BadF);
         };
-        let own = match self.port_to_bind(name, ip, port, is_local) {
+        let own = match self.port_to_bind(name, end, is_local) {
             Ok(own) => own,
             Err(errno) => return Err(errno),
         };
-        self.items[place].bind(ip, own);
+        let peer = self.items[place].peer();
+        self.settle(place, (end.0, own), peer);
         Ok(())
     }
 
@@ -60,7 +58,7 @@ impl Sockets {
             Ok(end) => end,
             Err(errno) => return Err(errno),
         };
-        self.items[place].connect(end.0, end.1, peer);
+        self.settle(place, end, Some(peer));
         Ok(())
     }
 
@@ -69,23 +67,32 @@ impl Sockets {
         ensures { self.new ≡ after_sent name.now port self.old }
     {
         if let Some(place) = self.place_of(name) {
-            self.items[place].keep_port(port);
+            let socket = &self.items[place];
+            let end = (socket.ip(), socket.port().unwrap_or(port));
+            let peer = socket.peer();
+            self.settle(place, end, peer);
         }
     }
 
-    /// The port that a socket is to be bound to.
-    fn port_to_bind(
-        &self,
-        name: &SockName,
-        ip: Option<Ip4>,
-        port: u16,
-        is_local: bool,
-    ) -> Result<u16, Errno>
-        ensures answer { IsRefusedBy
-            (first_refusal (bind_refusals name.now ip port is_local self.now)) result }
-        ensures port { IfOk result
-            (λ own. port_asked ip port (others name.now self.now) ≡ Some own) }
+    /// The socket at the place has that end, and that peer.
+    fn settle(&mut self, place: usize, end: End, peer: Option<Peer>)
+        requires { place < length self.old }
+        ensures { IfSome (slice_get self.old place) (λ s. self.new ≡ slice_set self.old place
+            (record s { ip = end.0; port = Some end.1; peer = peer })) }
     {
+        let port = self.items[place].port();
+        self.items[place].settle(end.0, end.1, peer);
+        self.ports.rebind(place, port, Some(end.1));
+    }
+
+    /// The port that a socket is to be bound to.
+    fn port_to_bind(&self, name: &SockName, end: End, is_local: bool) -> Result<u16, Errno>
+        ensures answer { IsRefusedBy
+            (first_refusal (bind_refusals name.now end.0 end.1 is_local self.now)) result }
+        ensures port { IfOk result
+            (λ own. port_asked end.0 end.1 (others name.now self.now) ≡ Some own) }
+    {
+        let (ip, port) = end;
         let Some(socket) = self.named(name) else {
             return Err(Errno::BadF);
         };
@@ -110,7 +117,7 @@ impl Sockets {
         name: &SockName,
         port: u16,
         source: Result<Ip4, Errno>,
-    ) -> Result<(Option<Ip4>, u16), Errno>
+    ) -> Result<End, Errno>
         ensures answer { IsRefusedBy
             (first_refusal (connect_refusals name.now port source self.now)) result }
         ensures end { IfOk result (λ end. ForSome (socket_named name.now self.now)
@@ -177,7 +184,22 @@ impl Sockets {
     fn is_port_free(&self, socket: &Socket, ip: Option<Ip4>, port: u16) -> bool
         ensures { result ≡ is_port_free ip port (others socket.now.name self.now) }
     {
-        !self.items.iter().any(|other| !other.has_name_of(socket) && other.conflicts(ip, port))
+        !self
+            .ports
+            .at(port)
+            .iter()
+            .any(|bound| self.is_taken_at(bound.place, socket, ip, port))
+    }
+
+    /// Whether another socket than that stands at the place, and has the port at an address that overlaps.
+    fn is_taken_at(&self, place: usize, socket: &Socket, ip: Option<Ip4>, port: u16) -> bool
+        ensures { result ≡ option_map_or (λ other. not (is_named socket.now.name other)
+            && conflicts ip port other) (slice_get self.now place) false }
+    {
+        match self.items.get(place) {
+            Some(other) => !other.has_name_of(socket) && other.conflicts(ip, port),
+            None => false,
+        }
     }
 }
 

@@ -1,8 +1,8 @@
-ghost use Rattle.std.specs.Prelude.{◌≡◌, ◌<◌, ◌↔◌, IfErr, IfOk, IfSome, IsErr, IsTrue, OnErr, OnOk, Some, length};
-ghost use Rattle.std.specs.Option.{ForSome};
+ghost use Rattle.std.specs.Prelude.{◌≡◌, ◌<◌, ◌↔◌, false, IfErr, IfOk, IfSome, IsErr, IsTrue, OnErr, OnOk, Some, length, slice_get};
+ghost use Rattle.std.specs.Option.{ForSome, option_map_or};
 ghost use Rattle.vn_types.specs.Refusals.{IsRefusedBy, first_refusal};
 ghost use Rattle.vn_rules.specs.SocketRefusals.{recv_refusals, send_refusals};
-ghost use Rattle.vn_rules.specs.Sockets.{after_recv, cleared, first_gram, has_sender, is_full_at, refused_by, socket_for, socket_named, with_gram};
+ghost use Rattle.vn_rules.specs.Sockets.{after_recv, cleared, first_gram, is_full_at, qualifies, socket_for, socket_named, with_gram};
 ghost use Rattle.vn_sock.specs.Plans.{IsPlanOf};
 
 use crate::plan::SendPlan;
@@ -10,11 +10,14 @@ use crate::sockets::Sockets;
 use vn_rules::Gram;
 use vn_types::{Errno, Ip4, SockName};
 
+/// Where a datagram goes, where that is said.
+type Destination = Option<(Ip4, u16)>;
+
 impl Sockets {
     pub(crate) fn plan(
         &mut self,
         name: &SockName,
-        to: Option<(Ip4, u16)>,
+        to: Destination,
         is_bad: bool,
     ) -> Result<SendPlan, Errno>
         ensures answer { IsRefusedBy
@@ -31,12 +34,7 @@ impl Sockets {
         answer
     }
 
-    fn planned(
-        &self,
-        name: &SockName,
-        to: Option<(Ip4, u16)>,
-        is_bad: bool,
-    ) -> Result<SendPlan, Errno>
+    fn planned(&self, name: &SockName, to: Destination, is_bad: bool) -> Result<SendPlan, Errno>
         ensures answer { IsRefusedBy
             (first_refusal (send_refusals name.now to is_bad self.now)) result }
         ensures planned { IfOk result
@@ -85,11 +83,22 @@ impl Sockets {
         ensures place { result ≡ socket_for dst dport src sport self.now }
         ensures within { IfSome result (λ place. place < length self.now) }
     {
-        let place = self
-            .items
+        let bound = self
+            .ports
+            .at(dport)
             .iter()
-            .position(|socket| socket.qualifies(dst, dport, src, sport))?;
-        Some(place as u64)
+            .find(|bound| self.is_for(bound.place, dst, dport, src, sport))?;
+        Some(bound.place as u64)
+    }
+
+    /// Whether a datagram is for the socket at the place.
+    fn is_for(&self, place: usize, dst: Ip4, dport: u16, src: Ip4, sport: u16) -> bool
+        ensures { result ≡ option_map_or (qualifies dst dport src sport) (slice_get self.now place) false }
+    {
+        match self.items.get(place) {
+            Some(socket) => socket.qualifies(dst, dport, src, sport),
+            None => false,
+        }
     }
 
     pub(crate) fn deliver(&mut self, place: u64, gram: Gram) -> Result<(), Gram>
@@ -100,20 +109,5 @@ impl Sockets {
         ensures kept { OnErr result (self.new ≡ self.old) }
     {
         self.items[place as usize].receive(gram)
-    }
-
-    /// The port that a datagram was sent to is unreachable.
-    pub(crate) fn refuse(&mut self, src: Ip4, sport: u16, dst: Ip4, dport: u16) -> bool
-        ensures sent { result ≡ has_sender src sport dst dport self.old }
-        ensures refused { self.new ≡ refused_by src sport dst dport self.old }
-    {
-        let is_sent = self
-            .items
-            .iter()
-            .any(|socket| socket.has_sent(src, sport, dst, dport));
-        for socket in self.items.iter_mut() {
-            socket.refuse(src, sport, dst, dport);
-        }
-        is_sent
     }
 }

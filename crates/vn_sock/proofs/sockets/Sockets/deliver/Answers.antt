@@ -4,13 +4,14 @@ use Rattle.std.specs.Option.{option_map_or}
 use Rattle.vn_types.specs.declared.interface.HalfId.{HalfId}
 use Rattle.vn_rules.specs.declared.socket.SocketOf.{SocketOf}
 use Rattle.vn_rules.specs.Sockets.{is_queue_full, queued}
-use Rattle.vn_sock.proofs.Kept.{at-place, set-apart, queued-name}
+use Rattle.vn_sock.proofs.Kept.{at-place, kept-there, queued-same}
 use Rattle.vn_sock.proofs.sockets.Sockets.deliver.Goals as goal
 
 pub invariant_of-self : goal.invariant_of-self
 invariant_of-self c =
-    set-apart c.self.inside.items.items c.args.place c.index_mut.result.now c.receive.new.self c.self.invariant c.index_mut.ensures.value
-    (ap (λ (s : SocketOf HalfId). s.name) c.receive.ensures.queued ∙ queued-name c.args.gram c.index_mut.result.now)
+    let same = queued-same c.args.gram c.index_mut.result.now in
+    kept-there c.self.inside.names c.self.inside.ports c.self.inside.items.items c.self.invariant c.args.place c.index_mut.result.now c.receive.new.self c.index_mut.ensures.value
+    (ap (λ (s : SocketOf HalfId). s.name) c.receive.ensures.queued ∙ same.0) (ap (λ (s : SocketOf HalfId). s.port) c.receive.ensures.queued ∙ same.1)
 
 pub returns-clause-full : goal.returns-clause-full
 returns-clause-full c =

@@ -1,22 +1,10 @@
-use Rattle.std.proofs.Common.{rules, tests, ◌≡◌, Option, Some, None, sym}
-use Rattle.std.specs.Prelude.{MatchOption}
-use Rattle.std.specs.Borrow.{Bor}
-use Rattle.std.specs.Option.{option_map}
-use Rattle.std.proofs.lemmas.Iterator.{YieldsList-from_slice}
-use Rattle.std.proofs.lemmas.Iterator.Search.{find_from_yields_List}
-use Rattle.std.specs.Prelude.{List, ℕ}
-use Rattle.vn_types.specs.declared.interface.HalfId.{HalfId}
-use Rattle.vn_rules.specs.declared.socket.SocketOf.{SocketOf}
-use Rattle.vn_rules.specs.Sockets.{is_named, socket_named}
-use Rattle.vn_sock.proofs.Kept.{found-name}
+use Rattle.std.proofs.Common.{◌≡◌, Some}
+use Rattle.vn_rules.specs.Sockets.{socket_named}
+use Rattle.vn_sock.proofs.Kept.{found-name, found-there}
 use Rattle.vn_sock.proofs.sockets.Sockets.named.Goals as goal
 
-by_case : (name : List ℕ) (sockets : List (SocketOf HalfId)) (r : Option (Bor (SocketOf HalfId))) → option_map (λ (s : Bor (SocketOf HalfId)). s.now) r ≡ socket_named name sockets
-    → MatchOption r (socket_named name sockets ≡ None) (λ s. (socket_named name sockets ≡ Some s.now) × (s.now.name ≡ name))
-by_case name sockets None is = sym is
-by_case name sockets (Some s) is = (sym is, found-name name sockets s.now (sym is))
-
-pub returns : goal.returns
-returns c =
-    by_case c.args.name.now c.args.self.now c.find.result
-    (find_from_yields_List (is_named c.args.name.now) _ _ c.find.result c.find.ensures.ran (YieldsList-from_slice c.args.self.now cc) (λ x b q k. search (rules, tests)))
+pub returns-in-Some : goal.returns-in-Some
+returns-in-Some c =
+    let found : socket_named c.args.name.now c.args.self.now ≡ Some c.index.result.now =
+    found-there c.args.name.now c.self.inside.items.items c.args.self.now c.in-Some.place c.index.result.now c.self.view_is c.in-Some.ensures.place c.index.ensures in
+    (found, found-name c.args.name.now c.args.self.now c.index.result.now found)

@@ -9,20 +9,18 @@ use Rattle.vn_rules.specs.declared.socket.GramOf.{GramOf}
 use Rattle.vn_rules.specs.declared.socket.SocketOf.{SocketOf}
 use Rattle.vn_rules.specs.SocketRefusals.{of_open}
 use Rattle.std.specs.Prelude.{is_none, ◌∷◌, []}
-use Rattle.vn_sock.proofs.Kept.{absent, changed-there, found-there, set-apart, on_ok, on_err}
+use Rattle.vn_sock.proofs.Kept.{changed-there, found-there, kept-there, on_ok, on_err}
+use Rattle.vn_sock.proofs.PortFinds.{are-apart}
 use Rattle.vn_sock.proofs.sockets.Sockets.recv.Goals as goal
 
-keeps_name : (s t : SocketOf HalfId) (r : Result (GramOf HalfId) Errno) → OnOk r (t ≡ record s { queue = drop 1 s.queue }) → OnErr r (t ≡ record s { refused = false }) → t.name ≡ s.name
-keeps_name s t (Ok g) taken reported = ap (λ (u : SocketOf HalfId). u.name) taken
-keeps_name s t (Err e) taken reported = ap (λ (u : SocketOf HalfId). u.name) reported
-
-pub returns-in_default-clause-reported : goal.returns-in_default-clause-reported
-returns-in_default-clause-reported c = absent c.args.name.now (λ s. record s { refused = false }) c.args.self.now c.in_default.ensures.found
+keeps : (s t : SocketOf HalfId) (r : Result (GramOf HalfId) Errno) → OnOk r (t ≡ record s { queue = drop 1 s.queue }) → OnErr r (t ≡ record s { refused = false }) → (t.name ≡ s.name) × (t.port ≡ s.port)
+keeps s t (Ok g) taken reported = (ap (λ (u : SocketOf HalfId). u.name) taken, ap (λ (u : SocketOf HalfId). u.port) taken)
+keeps s t (Err e) taken reported = (ap (λ (u : SocketOf HalfId). u.name) reported, ap (λ (u : SocketOf HalfId). u.port) reported)
 
 pub invariant_of-self : goal.invariant_of-self
 invariant_of-self c =
-    set-apart c.self.inside.items.items c.in-Some.place c.index_mut.result.now c.recv.new.self c.self.invariant c.index_mut.ensures.value
-    (keeps_name c.index_mut.result.now c.recv.new.self c.recv.result c.recv.ensures.taken c.recv.ensures.reported)
+    let same = keeps c.index_mut.result.now c.recv.new.self c.recv.result c.recv.ensures.taken c.recv.ensures.reported in
+    kept-there c.self.inside.names c.self.inside.ports c.self.inside.items.items c.self.invariant c.in-Some.place c.index_mut.result.now c.recv.new.self c.index_mut.ensures.value same.0 same.1
 
 pub returns-clause-answer : goal.returns-clause-answer
 returns-clause-answer c =
@@ -38,10 +36,10 @@ pub returns-clause-taken : goal.returns-clause-taken
 returns-clause-taken c =
     on_ok c.recv.result
     (changed-there c.args.name.now c.self.inside.items.items c.args.self.now c.in-Some.place c.index_mut.result.now c.self.view_is c.in-Some.ensures.place c.index_mut.ensures.value
-    (λ s. record s { queue = drop 1 s.queue }) c.recv.new.self c.self.invariant) c.recv.ensures.taken
+    (λ s. record s { queue = drop 1 s.queue }) c.recv.new.self (are-apart c.self.inside.names c.self.inside.ports c.self.inside.items.items c.self.invariant)) c.recv.ensures.taken
 
 pub returns-clause-reported : goal.returns-clause-reported
 returns-clause-reported c =
     on_err c.recv.result
     (changed-there c.args.name.now c.self.inside.items.items c.args.self.now c.in-Some.place c.index_mut.result.now c.self.view_is c.in-Some.ensures.place c.index_mut.ensures.value
-    (λ s. record s { refused = false }) c.recv.new.self c.self.invariant) c.recv.ensures.reported
+    (λ s. record s { refused = false }) c.recv.new.self (are-apart c.self.inside.names c.self.inside.ports c.self.inside.items.items c.self.invariant)) c.recv.ensures.reported

@@ -3,13 +3,14 @@ use Rattle.vn_types.specs.declared.interface.HalfId.{HalfId}
 use Rattle.vn_types.specs.Refusals.{first_refusal}
 use Rattle.vn_rules.specs.declared.socket.SocketOf.{SocketOf}
 use Rattle.vn_rules.specs.SocketRefusals.{of_open}
-use Rattle.vn_sock.proofs.Kept.{changed-there, found-there, set-apart}
+use Rattle.vn_sock.proofs.Kept.{changed-there, found-there, kept-there}
+use Rattle.vn_sock.proofs.PortFinds.{are-apart}
 use Rattle.vn_sock.proofs.sockets.Sockets.set_ttl.Goals as goal
 
 pub invariant_of-self : goal.invariant_of-self
 invariant_of-self c =
-    set-apart c.self.inside.items.items c.in-Some.place c.index_mut.result.now c.set_ttl.new.self c.self.invariant c.index_mut.ensures.value
-    (ap (λ (s : SocketOf HalfId). s.name) c.set_ttl.ensures)
+    kept-there c.self.inside.names c.self.inside.ports c.self.inside.items.items c.self.invariant c.in-Some.place c.index_mut.result.now c.set_ttl.new.self c.index_mut.ensures.value
+    (ap (λ (s : SocketOf HalfId). s.name) c.set_ttl.ensures) (ap (λ (s : SocketOf HalfId). s.port) c.set_ttl.ensures)
 
 pub returns-clause-answer : goal.returns-clause-answer
 returns-clause-answer c =
@@ -19,4 +20,4 @@ returns-clause-answer c =
 pub returns-clause-set : goal.returns-clause-set
 returns-clause-set c =
     changed-there c.args.name.now c.self.inside.items.items c.args.self.now c.in-Some.place c.index_mut.result.now c.self.view_is c.in-Some.ensures.place c.index_mut.ensures.value
-    (λ s. record s { ttl = Some c.args.ttl }) c.set_ttl.new.self c.self.invariant c.set_ttl.ensures
+    (λ s. record s { ttl = Some c.args.ttl }) c.set_ttl.new.self (are-apart c.self.inside.names c.self.inside.ports c.self.inside.items.items c.self.invariant) c.set_ttl.ensures

@@ -3,5 +3,5 @@ use Rattle.vn_sock.proofs.Loops.{AreChanged}
 use Rattle.vn_sock.proofs.sockets.Sockets.unbind.Given as goal
 
 -- the sockets so far are changed
-abbrev pub invariant-loop-socket : goal.invariant-loop-socket
-invariant-loop-socket l = AreChanged (unbound l.ip) l.initial.socket-items l.socket-items l.socket-index
+abbrev pub invariant-loop-place : goal.invariant-loop-place
+invariant-loop-place l = AreChanged (unbound l.ip) l.initial.self l.self l.place
