@@ -1,9 +1,9 @@
 -- An entry that is written in its place, and the numbers that are told then.
-use Rattle.std.proofs.Common.{◌≡◌, ℕ, Bool, true, false, cond, List, [], ◌∷◌, ◌++◌, get_or, Option, Some, None, MatchOption, Result, Ok, Err, OnOk, OnErr, refl, sym, ap, ap₂, subst, ◌∙◌}
+use Rattle.std.proofs.Common.{◌≡◌, ℕ, Bool, true, false, cond, not, List, [], ◌∷◌, ◌++◌, get_or, Option, Some, None, IfSome, MatchOption, Result, Ok, Err, OnOk, OnErr, refl, sym, ap, ap₂, subst, ◌∙◌}
 use Rattle.std.specs.Prelude.{slice_set, IsSome}
-use Rattle.std.specs.List.{position, find}
+use Rattle.std.specs.List.{filter, position, find}
 use Rattle.std.specs.Option.{option_map, option_and_then}
-use Rattle.std.proofs.lemmas.List.Elements.{All-from_recursion}
+use Rattle.std.proofs.lemmas.List.{map-append}
 use Rattle.vn_types.specs.declared.address.Ip4.{Ip4}
 use Rattle.vn_types.specs.declared.interface.HalfId.{HalfId}
 use Rattle.vn_types.specs.Interfaces.{half_id_eq}
@@ -16,9 +16,15 @@ use Rattle.vn_rules.specs.Soundness.{has_distinct_entries}
 use Rattle.vn_rules.specs.Timers.{Timed, after_arm, has_timer}
 use Rattle.vn_rules.proofs.ArpPlaces.{AtPlace, place_from_test}
 use Rattle.vn_rules.proofs.ListTests.{find_passes, found-some, absent-none}
-use Rattle.vn_arp.specs.Kept.{KeptOf, entries_of, is_kept_at, arm_of, without_numbered, KnowsArms, Tells, IsPut}
-use Rattle.vn_arp.proofs.Numbers.{all_from_none, none-stopped, place_itself, told-alike, none_there as none_told, stopped-there, told-without, told-armed}
-use Rattle.vn_arp.proofs.Rows.{entry_of-kept, found-at, found-nowhere, put-there, put-last, put-distinct}
+use Rattle.vn_arp.specs.declared.change.Change.{Change}
+use Rattle.vn_arp.specs.declared.change.Change.TheVariants.{Asked, Down, Learnt, Static}
+use Rattle.vn_arp.specs.declared.gone.At.{At}
+use Rattle.vn_arp.specs.Changes.{arm_for, armed_for, changed}
+use Rattle.vn_arp.specs.Kept.{KeptOf, entries_of, is_kept_at, is_numbered, arm_of, without_numbered, KnowsArms, Tells, IsPut}
+use Rattle.vn_arp.specs.Listing.{IsIndexed, IsOrder, at_of, with_listed}
+use Rattle.vn_arp.proofs.Numbers.{all_from_none, filter_alike, weaker, none-stopped, place_itself, told-alike, none_there as none_told, stopped-there, told-without, told-armed}
+use Rattle.vn_arp.proofs.Order.{IsOrder-none, IsOrder-more, IsOrder-fewer, IsOrder-written}
+use Rattle.vn_arp.proofs.Rows.{entry_of-kept, found-at, found-nowhere, put-there, put-last, put-distinct, left, entries_left, distinct_left}
 
 -- ---- answers
 
@@ -27,17 +33,10 @@ pub for_ok : {T E : Type 0} (P Q : Type 0) (r : Result T E) → (P → Q) → On
 for_ok P Q (Ok x) then p = then p
 for_ok P Q (Err e) then p = tt
 
-pub for_err : {T E : Type 0} (P Q : Type 0) (r : Result T E) → (P → Q) → OnErr r P → OnErr r Q
-for_err P Q (Ok x) then p = tt
-for_err P Q (Err e) then p = then p
-
-pub both_ok : {T E : Type 0} (P Q : Type 0) (r : Result T E) → OnOk r P → OnOk r Q → OnOk r (P × Q)
-both_ok P Q (Ok x) p q = (p, q)
-both_ok P Q (Err e) p q = tt
-
-pub both_err : {T E : Type 0} (P Q : Type 0) (r : Result T E) → OnErr r P → OnErr r Q → OnErr r (P × Q)
-both_err P Q (Ok x) p q = tt
-both_err P Q (Err e) p q = (p, q)
+-- what holds anyway
+pub on_err : {T E : Type 0} (P : Type 0) (r : Result T E) → P → OnErr r P
+on_err P (Ok x) p = tt
+on_err P (Err e) p = p
 
 -- what holds of either answer
 pub for_both : {T E : Type 0} (P Q C : Type 0) (r : Result T E) → (P → C) → (Q → C) → OnOk r P → OnErr r Q → C
@@ -47,30 +46,42 @@ for_both P Q C (Err e) ok err p q = err q
 abbrev pub Kept : Type 0
 Kept = KeptOf HalfId
 
+-- ---- changes
+
+-- an entry stays where it is
+pub changed_at : (change : Change) (e : ArpEntryOf HalfId) → at_of (changed change e) ≡ at_of e
+changed_at Asked e = refl
+changed_at Down e = refl
+changed_at (Learnt mac) e = refl
+changed_at (Static mac) e = refl
+
 module _ (half : HalfId) (ip : Ip4) where
   abbrev here : Kept → Bool
   here k = is_kept_at half_id_eq half ip k
 
   -- what is known of the entry that was written, and of the one that is
-  pub record Edited (rows new : List Kept) (old k : Kept) : Type 0 where
+  pub record Edited (order : List At) (rows new : List Kept) (old k : Kept) : Type 0 where
     pub there : entry_of half_id_eq half ip (entries_of rows) ≡ Some old.entry
     pub arm : arm_of half_id_eq half ip rows ≡ old.arm
     pub halves : old.entry.half ≡ half
     pub addresses : old.entry.ip ≡ ip
-    pub put : (f : ArpEntryOf HalfId → ArpEntryOf HalfId) → ((e : ArpEntryOf HalfId) → is_entry_at half_id_eq half ip (f e) ≡ is_entry_at half_id_eq half ip e) → k.entry ≡ f old.entry
-        → IsPut half_id_eq half ip f k.arm rows new
-    pub distinct : (f : ArpEntryOf HalfId → ArpEntryOf HalfId) → ((e : ArpEntryOf HalfId) → is_entry_at half_id_eq half ip (f e) ≡ is_entry_at half_id_eq half ip e) → k.entry ≡ f old.entry
-        → has_distinct_entries half_id_eq (entries_of new) ≡ true
+    pub put : (f : ArpEntryOf HalfId → ArpEntryOf HalfId) → ((e : ArpEntryOf HalfId) → at_of (f e) ≡ at_of e) → k.entry ≡ f old.entry → IsPut half_id_eq half ip f k.arm rows new
+    pub index : (f : ArpEntryOf HalfId → ArpEntryOf HalfId) → ((e : ArpEntryOf HalfId) → at_of (f e) ≡ at_of e) → k.entry ≡ f old.entry → IsIndexed order new
 
-  pub edited : (inside rows : List Kept) → inside ≡ rows → (r : Option ℕ) (place : ℕ) → r ≡ Some place → r ≡ position here rows
-      → has_distinct_entries half_id_eq (entries_of inside) ≡ true → (old k : Kept) → old ≡ get_or inside place old → Edited rows (slice_set inside place k) old k
-  edited inside rows view r place is at one old k value = record {
+  pub edited : (order : List At) (inside rows : List Kept) → inside ≡ rows → (r : Option ℕ) (place : ℕ) → r ≡ Some place → r ≡ position here rows
+      → IsIndexed order inside → (old k : Kept) → old ≡ get_or inside place old → Edited order rows (slice_set inside place k) old k
+  edited order inside rows view r place is at indexed old k value = record {
     there = entry_of-kept half_id_eq half_id_eq-Decides half ip rows ∙ ap (λ o. option_map (λ (k : Kept). k.entry) o) found;
     arm = ap (option_and_then (λ (k : Kept). k.arm)) found;
     halves = AtPlace.halves at_place;
     addresses = AtPlace.addresses at_place;
     put = put;
-    distinct = λ f keeps by_f. put-distinct half_id_eq half_id_eq-Decides half ip f k.arm rows (slice_set inside place k) (put f keeps by_f) (λ e passes. keeps e ∙ passes) (sym (ap (λ rows. has_distinct_entries half_id_eq (entries_of rows)) view) ∙ one);
+    index = λ f stays by_f. record {
+      distinct =
+          put-distinct half_id_eq half_id_eq-Decides half ip f k.arm rows (slice_set inside place k) (put f stays by_f) (λ e passes. same_test f stays e ∙ passes)
+          (sym (ap (λ rows. has_distinct_entries half_id_eq (entries_of rows)) view) ∙ indexed.distinct);
+      ordered = IsOrder-written order inside place old k value (ap at_of by_f ∙ stays old.entry) indexed.ordered;
+    };
   }
     where
       placed : Some place ≡ position here inside
@@ -85,11 +96,14 @@ module _ (half : HalfId) (ip : Ip4) where
       at_place : AtPlace half_id_eq half_id_eq-Decides half ip old.entry.half old.entry.ip
       at_place = place_from_test half_id_eq half_id_eq-Decides half ip old.entry.half old.entry.ip passes
 
-      put : (f : ArpEntryOf HalfId → ArpEntryOf HalfId) → ((e : ArpEntryOf HalfId) → is_entry_at half_id_eq half ip (f e) ≡ is_entry_at half_id_eq half ip e) → k.entry ≡ f old.entry
-          → IsPut half_id_eq half ip f k.arm rows (slice_set inside place k)
-      put f keeps by_f =
+      same_test : (f : ArpEntryOf HalfId → ArpEntryOf HalfId) → ((e : ArpEntryOf HalfId) → at_of (f e) ≡ at_of e) → (e : ArpEntryOf HalfId) → is_entry_at half_id_eq half ip (f e) ≡ is_entry_at half_id_eq half ip e
+      same_test f stays e = ap (λ (at : At). is_place half_id_eq half ip at.half at.ip) (stays e)
+
+      put : (f : ArpEntryOf HalfId → ArpEntryOf HalfId) → ((e : ArpEntryOf HalfId) → at_of (f e) ≡ at_of e) → k.entry ≡ f old.entry → IsPut half_id_eq half ip f k.arm rows (slice_set inside place k)
+      put f stays by_f =
           subst (λ rows. IsPut half_id_eq half ip f k.arm rows (slice_set inside place k)) view
-          (put-there half_id_eq half_id_eq-Decides half ip inside place old k placed one (ap (is_entry_at half_id_eq half ip) by_f ∙ keeps old.entry ∙ passes) f (by_f ∙ ap (λ (k : Kept). f k.entry) value))
+          (put-there half_id_eq half_id_eq-Decides half ip inside place old k placed indexed.distinct (ap (is_entry_at half_id_eq half ip) by_f ∙ same_test f stays old.entry ∙ passes) f
+          (by_f ∙ ap (λ (k : Kept). f k.entry) value))
 
   -- where an entry was found, none is not
   pub not_nowhere : (rows : List Kept) → IsSome (entry_of half_id_eq half ip (entries_of rows)) → (r : Option ℕ) → r ≡ None → r ≡ position here rows → ⊥
@@ -98,6 +112,12 @@ module _ (half : HalfId) (ip : Ip4) where
       by : (o : Option Kept) → find here rows ≡ o → ⊥
       by None absent = let none : false ≡ true = subst IsSome (entry_of-kept half_id_eq half_id_eq-Decides half ip rows ∙ ap (λ o. option_map (λ (k : Kept). k.entry) o) absent) some in cc
       by (Some k) found = cc (found-nowhere here rows k (sym is ∙ at), found)
+
+  -- and where none was found, there is none
+  pub absent_there : (rows : List Kept) (r : Option ℕ) → r ≡ None → r ≡ position here rows → entry_of half_id_eq half ip (entries_of rows) ≡ None
+  absent_there rows r is at =
+      entry_of-kept half_id_eq half_id_eq-Decides half ip rows
+      ∙ ap (λ o. option_map (λ (k : Kept). k.entry) o) (found-nowhere here rows (record { entry = new_entry half ip; arm = None }) (sym is ∙ at))
 
   -- what is found of what is kept is found of the entries
   pub found_entry : {X : Type 0} (rows : List Kept) (v : X → Kept) (r : Option X) → option_map v r ≡ find here rows
@@ -143,12 +163,6 @@ module _ (half : HalfId) (ip : Ip4) where
     pub knows_stopped : IsPut half_id_eq half ip f None rows new → KnowsArms half_id_eq new (without_timer_at half_id_eq half ip t)
     knows_stopped put = told-without half_id_eq half_id_eq-Decides (told rows) t known (is_place half_id_eq half ip) (told new) put.arms
 
-    pub knows_armed : IsPut half_id_eq half ip f (Some t.armed) rows new → timer_at half_id_eq half ip t ≡ None → has_timer t.armed t ≡ false → (deadline : ℕ)
-        → KnowsArms half_id_eq new (after_arm deadline (Arp half ip) t)
-    knows_armed put none unused deadline =
-        told-armed half_id_eq half_id_eq-Decides (told rows) t known half ip deadline (told new)
-        (All-from_recursion _ _ (all_from_none (λ (e : Timed HalfId). is_timer_where (is_place half_id_eq half ip) e.1) t.standing (absent-none (λ (e : Timed HalfId). is_timer_where (is_place half_id_eq half ip) e.1) t.standing none))) unused put.arms
-
     pub knows_added : IsPut half_id_eq half ip f (Some t.armed) rows new → arm_of half_id_eq half ip rows ≡ None → has_timer t.armed t ≡ false → (deadline : ℕ)
         → KnowsArms half_id_eq new (after_arm deadline (Arp half ip) t)
     knows_added put none unused deadline =
@@ -180,6 +194,20 @@ module _ (half : HalfId) (ip : Ip4) where
   pub untimed_absent : (rows : List Kept) (t : TimersOf HalfId) → KnowsArms half_id_eq rows t → entry_of half_id_eq half ip (entries_of rows) ≡ None → t ≡ without_timer_at half_id_eq half ip t
   untimed_absent rows t known absent = none-stopped t ∙ stopped_kept rows t known None (ap (option_and_then (λ (k : Kept). k.arm)) (absent_kept rows absent))
 
+  -- nor where it was taken out
+  pub untaken : (t : TimersOf HalfId) → timer_at half_id_eq half ip t ≡ None → without_timer_at half_id_eq half ip t ≡ t
+  untaken t taken =
+      (λ i. record {
+        armed = t.armed;
+        standing = filter_alike (λ (e : Timed HalfId). not (is_timer_there e)) (λ (e : Timed HalfId). not (is_numbered None e)) t.standing
+            (weaker (λ (e : Timed HalfId). is_timer_there e ≡ false) (λ (e : Timed HalfId). not (is_timer_there e) ≡ not (is_numbered None e)) (λ e is. ap not is) t.standing
+            (all_from_none is_timer_there t.standing (absent-none is_timer_there t.standing taken))) i;
+      })
+      ∙ sym (none-stopped t)
+    where
+      is_timer_there : Timed HalfId → Bool
+      is_timer_there e = is_timer_where (is_place half_id_eq half ip) e.1
+
   -- ---- what follows from what was done to the entry and to its timer
 
   -- what becomes of the timers, and that the numbers are told
@@ -187,10 +215,10 @@ module _ (half : HalfId) (ip : Ip4) where
     pub timers : is ≡ want
     pub knows : KnowsArms half_id_eq new is
 
-  module _ (rows new : List Kept) (old k : Kept) (e : Edited rows new old k) (t : TimersOf HalfId) (known : KnowsArms half_id_eq rows t)
-      (f : ArpEntryOf HalfId → ArpEntryOf HalfId) (keeps : (e : ArpEntryOf HalfId) → is_entry_at half_id_eq half ip (f e) ≡ is_entry_at half_id_eq half ip e) (by_f : k.entry ≡ f old.entry) (after : TimersOf HalfId) where
+  module _ (order : List At) (rows new : List Kept) (old k : Kept) (e : Edited order rows new old k) (t : TimersOf HalfId) (known : KnowsArms half_id_eq rows t)
+      (f : ArpEntryOf HalfId → ArpEntryOf HalfId) (stays : (e : ArpEntryOf HalfId) → at_of (f e) ≡ at_of e) (by_f : k.entry ≡ f old.entry) (after : TimersOf HalfId) where
     put_with : (arm : Option ℕ) → k.arm ≡ arm → IsPut half_id_eq half ip f arm rows new
-    put_with arm is = subst (λ arm. IsPut half_id_eq half ip f arm rows new) is (e.put f keeps by_f)
+    put_with arm is = subst (λ arm. IsPut half_id_eq half ip f arm rows new) is (e.put f stays by_f)
 
     numbered_there : without_numbered old.arm t ≡ without_timer_at half_id_eq half ip t
     numbered_there = stopped_kept rows t known old.arm e.arm
@@ -198,22 +226,14 @@ module _ (half : HalfId) (ip : Ip4) where
     timing : (want : TimersOf HalfId) → after ≡ want → KnowsArms half_id_eq new want → Timing new want after
     timing want is knows = record { timers = is; knows = subst (KnowsArms half_id_eq new) (sym is) knows }
 
-    pub after_stop : k.arm ≡ None → after ≡ without_numbered old.arm t → Timing new (without_timer_at half_id_eq half ip t) after
-    after_stop none is = timing _ (is ∙ numbered_there) (knows_stopped rows new t known f (put_with None none))
-
-    pub after_start : (deadline : ℕ) → k.arm ≡ Some t.armed → timer_at half_id_eq half ip t ≡ None → has_timer t.armed t ≡ false
-        → after ≡ after_arm deadline (Arp old.entry.half old.entry.ip) t → Timing new (after_arm deadline (Arp half ip) t) after
-    after_start deadline arm none unused is =
-        timing _ (is ∙ (λ i. after_arm deadline (Arp (e.halves i) (e.addresses i)) t)) (knows_armed rows new t known f (put_with (Some t.armed) arm) none unused deadline)
-
-    pub after_restart : (deadline : ℕ) → k.arm ≡ Some t.armed → has_timer t.armed (without_numbered old.arm t) ≡ false
-        → after ≡ after_arm deadline (Arp old.entry.half old.entry.ip) (without_numbered old.arm t) → Timing new (after_arm deadline (Arp half ip) (without_timer_at half_id_eq half ip t)) after
-    after_restart deadline arm unused is =
+    -- its timer was stopped, and armed for the deadline, where there is one
+    pub retimed : (deadline : Option ℕ) → k.arm ≡ arm_for deadline t → IfSome deadline (λ _. has_timer t.armed (without_numbered old.arm t) ≡ false)
+        → after ≡ armed_for deadline (Arp old.entry.half old.entry.ip) (without_numbered old.arm t)
+        → Timing new (armed_for deadline (Arp half ip) (without_timer_at half_id_eq half ip t)) after
+    retimed None none unused is = timing _ (is ∙ numbered_there) (knows_stopped rows new t known f (put_with None none))
+    retimed (Some deadline) arm unused is =
         timing _ (is ∙ (λ i. after_arm deadline (Arp (e.halves i) (e.addresses i)) (numbered_there i)))
         (knows_restarted rows new t known f (put_with (Some t.armed) arm) (sym (ap (has_timer t.armed) numbered_there) ∙ unused) deadline)
-
-    pub after_nothing : k.arm ≡ old.arm → after ≡ t → Timing new t after
-    after_nothing arm is = timing _ is (knows_kept rows new t known f (put_with (arm_of half_id_eq half ip rows) (arm ∙ sym e.arm)))
 
 module _ (rows : List Kept) (k : Kept) (absent : entry_of half_id_eq k.entry.half k.entry.ip (entries_of rows) ≡ None) where
   itself : is_kept_at half_id_eq k.entry.half k.entry.ip k ≡ true
@@ -223,14 +243,17 @@ module _ (rows : List Kept) (k : Kept) (absent : entry_of half_id_eq k.entry.hal
   pub added : IsPut half_id_eq k.entry.half k.entry.ip (λ _. k.entry) k.arm rows (rows ++ k ∷ [])
   added = put-last half_id_eq half_id_eq-Decides k.entry.half k.entry.ip rows k (absent_kept k.entry.half k.entry.ip rows absent) itself (λ _. k.entry) refl
 
-  pub added_distinct : has_distinct_entries half_id_eq (entries_of rows) ≡ true → has_distinct_entries half_id_eq (entries_of (rows ++ k ∷ [])) ≡ true
-  added_distinct one = put-distinct half_id_eq half_id_eq-Decides k.entry.half k.entry.ip (λ _. k.entry) k.arm rows (rows ++ k ∷ []) added (λ e _. itself) one
+  pub added_index : (order : List At) → IsIndexed order rows → IsIndexed (with_listed (at_of k.entry) order) (rows ++ k ∷ [])
+  added_index order indexed = record {
+    distinct = put-distinct half_id_eq half_id_eq-Decides k.entry.half k.entry.ip (λ _. k.entry) k.arm rows (rows ++ k ∷ []) added (λ e _. itself) indexed.distinct;
+    ordered = subst (IsOrder (with_listed (at_of k.entry) order)) (sym (map-append (λ (k : Kept). k.entry) rows (k ∷ []))) (IsOrder-more order (entries_of rows) indexed.ordered k.entry absent);
+  }
 
-  pub no_arm : arm_of half_id_eq k.entry.half k.entry.ip rows ≡ None
+  no_arm : arm_of half_id_eq k.entry.half k.entry.ip rows ≡ None
   no_arm = ap (option_and_then (λ (k : Kept). k.arm)) (absent_kept k.entry.half k.entry.ip rows absent)
 
   -- where it has no timer, each number is told as before
-  pub added_arms : k.arm ≡ None → (own : HalfId) (at : Ip4) → arm_of half_id_eq own at (rows ++ k ∷ []) ≡ arm_of half_id_eq own at rows
+  added_arms : k.arm ≡ None → (own : HalfId) (at : Ip4) → arm_of half_id_eq own at (rows ++ k ∷ []) ≡ arm_of half_id_eq own at rows
   added_arms none own at = added.arms own at ∙ ap (λ arm. cond (is_place half_id_eq k.entry.half k.entry.ip own at) arm (arm_of half_id_eq own at rows)) none ∙ by (is_place half_id_eq k.entry.half k.entry.ip own at) refl
     where
       by : (b : Bool) → is_place half_id_eq k.entry.half k.entry.ip own at ≡ b → cond b None (arm_of half_id_eq own at rows) ≡ arm_of half_id_eq own at rows
@@ -239,10 +262,27 @@ module _ (rows : List Kept) (k : Kept) (absent : entry_of half_id_eq k.entry.hal
           sym ((λ i. arm_of half_id_eq (there.halves i) (there.addresses i) rows) ∙ no_arm)
       by false is = refl
 
-  -- its timer is armed with it
-  pub added_knows : (t : TimersOf HalfId) → KnowsArms half_id_eq rows t → k.arm ≡ Some t.armed → has_timer t.armed t ≡ false → (deadline : ℕ) (after : TimersOf HalfId)
-      → after ≡ after_arm deadline (Arp k.entry.half k.entry.ip) t → KnowsArms half_id_eq (rows ++ k ∷ []) after
-  added_knows t known arm unused deadline after is =
+  -- its timer is armed with it, where it has one
+  pub added_knows : (t : TimersOf HalfId) → KnowsArms half_id_eq rows t → (deadline : Option ℕ) → k.arm ≡ arm_for deadline t → IfSome deadline (λ _. has_timer t.armed t ≡ false) → (after : TimersOf HalfId)
+      → after ≡ armed_for deadline (Arp k.entry.half k.entry.ip) t → KnowsArms half_id_eq (rows ++ k ∷ []) after
+  added_knows t known None none unused after is =
+      subst (KnowsArms half_id_eq (rows ++ k ∷ [])) (sym is)
+      (told-alike half_id_eq half_id_eq-Decides (λ own at. arm_of half_id_eq own at rows) t known (λ own at. arm_of half_id_eq own at (rows ++ k ∷ [])) (added_arms none))
+  added_knows t known (Some deadline) arm unused after is =
       subst (KnowsArms half_id_eq (rows ++ k ∷ [])) (sym is)
       (knows_added k.entry.half k.entry.ip rows (rows ++ k ∷ []) t known (λ _. k.entry)
       (subst (λ arm. IsPut half_id_eq k.entry.half k.entry.ip (λ _. k.entry) arm rows (rows ++ k ∷ [])) arm added) no_arm unused deadline)
+
+-- ---- the entries of a stack that is new, and those that are left
+
+pub new_index : (order : List At) (rows : List Kept) → order ≡ [] → rows ≡ [] → IsIndexed order rows
+unfolding has_distinct_entries
+new_index order rows none empty = subst (λ (x : List At × List Kept). IsIndexed x.0 x.1) (λ i. (sym none i, sym empty i)) (record { distinct = refl; ordered = IsOrder-none })
+
+pub left_index : (gone : HalfId → Ip4 → Bool) (order : List At) (rows : List Kept) → IsIndexed order rows → IsIndexed (filter (λ (a : At). not (gone a.half a.ip)) order) (left half_id_eq half_id_eq-Decides gone rows)
+left_index gone order rows indexed = record {
+  distinct = distinct_left half_id_eq half_id_eq-Decides gone rows indexed.distinct;
+  ordered =
+      subst (IsOrder (filter (λ (a : At). not (gone a.half a.ip)) order)) (sym (entries_left half_id_eq half_id_eq-Decides gone rows))
+      (IsOrder-fewer order (entries_of rows) indexed.ordered (λ (a : At). not (gone a.half a.ip)));
+}

@@ -1,30 +1,33 @@
 -- What was done to the entries and the timers is what the rules say.
-use Rattle.std.proofs.Common.{◌≡◌, ℕ, zero, suc, ◌+◌, Bool, true, false, cond, not, ◌&&◌, ◌||◌, ◌==◌, List, [], ◌∷◌, ◌++◌, Option, Some, None, refl, sym, ap, ap₂, subst, ◌∙◌}
+use Rattle.std.proofs.Common.{◌≡◌, ℕ, zero, suc, ◌+◌, Bool, true, false, cond, not, ◌||◌, ◌==◌, List, [], ◌∷◌, ◌++◌, Option, Some, None, refl, sym, ap, subst, ◌∙◌}
 use Rattle.std.specs.Prelude.{is_some, is_none, slice_set}
 use Rattle.std.specs.List.{filter}
 use Rattle.std.specs.Option.{option_map, option_map_or}
-use Rattle.std.proofs.lemmas.Bool.{and_from}
-use Rattle.vn_types.specs.declared.address.Ip4.{Ip4}
 use Rattle.vn_types.specs.declared.address.Mac.{Mac}
+use Rattle.vn_types.specs.declared.address.Ip4.{Ip4}
 use Rattle.vn_types.specs.declared.interface.HalfId.{HalfId}
 use Rattle.vn_types.specs.Interfaces.{half_id_eq}
 use Rattle.vn_types.proofs.InterfaceNames.{half_id_eq-Decides}
 use Rattle.vn_rules.specs.declared.arp.ArpEntryOf.{ArpEntryOf}
-use Rattle.vn_rules.specs.declared.arp.ArpState.TheVariants.{Learnt, Static}
+use Rattle.vn_rules.specs.declared.arp.ArpState.TheVariants.{Learnt}
 use Rattle.vn_rules.specs.declared.parts.PartsOf.{PartsOf}
 use Rattle.vn_rules.specs.declared.timer.TimersOf.{TimersOf}
 use Rattle.vn_rules.specs.declared.timer.TimerOf.TheVariants.{Arp}
-use Rattle.vn_rules.specs.Arp.{entry_of, holding, is_place, new_entry, resolved, with_entry, without_entries, without_timer_at, without_timers_where}
+use Rattle.vn_rules.specs.Arp.{entry_of, hit, holding, is_down, is_place, new_entry, resolved, timer_at, with_entry, without_entries, without_timer_at, without_timers_where}
 use Rattle.vn_rules.specs.Resolution.{TurnOf, Ask, GivesUp, Removed, adds, after_arp_delete, after_hold, after_input, after_static, after_turn, asked, down_time, given_up, learnt_time, merges, request_time, timed_entry, turn_of, turned, untimed}
 use Rattle.vn_rules.specs.Soundness.{has_distinct_entries}
 use Rattle.vn_rules.specs.Timers.{after_arm}
 use Rattle.vn_arp.specs.declared.answers.Turn.{Turn}
 use Rattle.vn_arp.specs.declared.answers.Turn.TheVariants as turn
-use Rattle.vn_arp.specs.Answers.{turn_as}
+use Rattle.vn_arp.specs.declared.change.Change.{Change}
+use Rattle.vn_arp.specs.declared.change.Change.TheVariants as change
+use Rattle.vn_arp.specs.Answers.{after_resolution, turn_as}
+use Rattle.vn_arp.specs.Changes.{after_change, armed_for, changed}
 use Rattle.vn_arp.specs.Kept.{KnowsArms, Follows, entries_of, parts_with}
+use Rattle.vn_arp.specs.Listing.{at_of}
 use Rattle.vn_arp.specs.Stacks.{of}
 use Rattle.vn_arp.proofs.Removal.{gone-stopped}
-use Rattle.vn_arp.proofs.Edits.{Kept, put_new, untimed_absent}
+use Rattle.vn_arp.proofs.Edits.{Kept, changed_at, put_new, untaken, untimed_absent}
 
 abbrev Parts : Type 0
 Parts = PartsOf HalfId
@@ -58,6 +61,22 @@ module _ (rows new : List Kept) (t after : TimersOf HalfId) where
     abbrev found : Option (ArpEntryOf HalfId)
     found = entry_of half_id_eq half ip (entries_of rows)
 
+    -- ---- an entry changes, and its timer with it
+
+    pub made_so : (to : Change) (deadline : Option ℕ) → entries_of new ≡ with_entry half_id_eq half ip (changed to) (entries_of rows)
+        → after ≡ armed_for deadline (Arp half ip) (without_timer_at half_id_eq half ip t) → Follows (after_change half_id_eq to deadline half ip) rows t new after
+    made_so to deadline is at = record { parts = λ p. same_parts _ _ is at p }
+
+    -- it is made where there was none, and no timer
+    pub made_first : (to : Change) (deadline : Option ℕ) (e : ArpEntryOf HalfId) → KnowsArms half_id_eq rows t → found ≡ None → e ≡ changed to (new_entry half ip)
+        → entries_of new ≡ entries_of rows ++ e ∷ [] → after ≡ armed_for deadline (Arp e.half e.ip) t → Follows (after_change half_id_eq to deadline half ip) rows t new after
+    made_first to deadline e known absent made is at =
+        made_so to deadline (is ∙ ap (λ e. entries_of rows ++ e ∷ []) made ∙ put_new half ip (changed to) (entries_of rows) absent)
+        (at ∙ (λ i. armed_for deadline (Arp (place i).half (place i).ip) (untimed_absent half ip rows t known absent i)))
+      where
+        place : at_of e ≡ at_of (new_entry half ip)
+        place = ap at_of made ∙ changed_at to (new_entry half ip)
+
     -- ---- a datagram is held
 
     pub held : (now : ℕ) (octets : List ℕ) → is_some found ≡ true → entries_of new ≡ with_entry half_id_eq half ip (holding octets) (entries_of rows) → after ≡ t
@@ -80,55 +99,39 @@ module _ (rows new : List Kept) (t after : TimersOf HalfId) where
           (sym (ap is_none (none_there found absent)));
     }
 
+    -- where it is neither sent nor refused at once
+    pub unsettled : (now : ℕ) (octets : List ℕ) → hit half_id_eq half ip (entries_of rows) ≡ None → is_down half_id_eq half ip (entries_of rows) ≡ false
+        → Follows (after_hold half_id_eq now half ip octets) rows t new after → Follows (after_resolution half_id_eq now half ip octets) rows t new after
+    unsettled now octets unknown up follows = record {
+      parts = λ p.
+          follows.parts p
+          ∙ (λ i. cond (is_some (sym unknown i) || sym up i) (parts_with rows t p) (after_hold half_id_eq now half ip octets (parts_with rows t p)));
+    }
+
     -- ---- a packet tells the hardware address
+
+    -- whether it does
+    abbrev pub learns : Bool → Bool
+    learns is_target = merges half_id_eq half ip (entries_of rows) || adds half_id_eq half ip is_target (entries_of rows)
 
     module _ (now : ℕ) (mac : Mac) (is_target : Bool) where
       learn_if : Bool → Parts → Parts
       learn_if b p = cond b (timed_entry half_id_eq (now + learnt_time) half ip (resolved Learnt mac) (untimed half_id_eq half ip p)) p
 
-      pub learnt : merges half_id_eq half ip (entries_of rows) ≡ true → entries_of new ≡ with_entry half_id_eq half ip (resolved Learnt mac) (entries_of rows)
-          → after ≡ after_arm (now + learnt_time) (Arp half ip) (without_timer_at half_id_eq half ip t) → Follows (after_input half_id_eq now half ip mac is_target) rows t new after
-      unfolding after_input learn_if
-      learnt merging is at = record {
-        parts = λ p. same_parts _ _ is at p ∙ ap (λ b. learn_if (b || adds half_id_eq half ip is_target (entries_of rows)) (parts_with rows t p)) (sym merging);
-      }
-
-      pub learnt_first : KnowsArms half_id_eq rows t → merges half_id_eq half ip (entries_of rows) ≡ false → is_target ≡ true → is_some found ≡ false
-          → entries_of new ≡ entries_of rows ++ resolved Learnt mac (new_entry half ip) ∷ [] → after ≡ after_arm (now + learnt_time) (Arp half ip) t → Follows (after_input half_id_eq now half ip mac is_target) rows t new after
-      unfolding after_input learn_if
-      learnt_first known apart target absent is at = record {
-        parts = λ p.
-            same_parts _ _ (is ∙ put_new half ip (resolved Learnt mac) (entries_of rows) (none_there found absent))
-            (at ∙ ap (after_arm (now + learnt_time) (Arp half ip)) (untimed_absent half ip rows t known (none_there found absent))) p
-            ∙ ap₂ (λ b c. learn_if (b || c) (parts_with rows t p)) (sym apart) (sym (and_from is_target (is_none found) target (ap is_none (none_there found absent))));
-      }
-
-      pub not_learnt : merges half_id_eq half ip (entries_of rows) ≡ false → adds half_id_eq half ip is_target (entries_of rows) ≡ false → entries_of new ≡ entries_of rows → after ≡ t
+      pub learnt : learns is_target ≡ true → Follows (after_change half_id_eq (change.Learnt mac) (Some (now + learnt_time)) half ip) rows t new after
           → Follows (after_input half_id_eq now half ip mac is_target) rows t new after
       unfolding after_input learn_if
-      not_learnt apart none is at = record { parts = λ p. same_parts _ _ is at p ∙ ap₂ (λ b c. learn_if (b || c) (parts_with rows t p)) (sym apart) (sym none) }
+      learnt learning follows = record { parts = λ p. follows.parts p ∙ ap (λ b. learn_if b (parts_with rows t p)) (sym learning) }
 
-    -- it is added only for a target, and where there is none
-    pub adds_no_target : (is_target : Bool) → is_target ≡ false → adds half_id_eq half ip is_target (entries_of rows) ≡ false
-    adds_no_target is_target is = ap (λ b. b && is_none found) is
-
-    pub adds_no_more : (is_target : Bool) → is_some found ≡ true → adds half_id_eq half ip is_target (entries_of rows) ≡ false
-    adds_no_more false is = refl
-    adds_no_more true is = some_there found is
+      pub not_learnt : learns is_target ≡ false → entries_of new ≡ entries_of rows → after ≡ t → Follows (after_input half_id_eq now half ip mac is_target) rows t new after
+      unfolding after_input learn_if
+      not_learnt none is at = record { parts = λ p. same_parts _ _ is at p ∙ ap (λ b. learn_if b (parts_with rows t p)) (sym none) }
 
     -- ---- by hand
 
-    pub set : (mac : Mac) → entries_of new ≡ with_entry half_id_eq half ip (resolved Static mac) (entries_of rows) → after ≡ without_timer_at half_id_eq half ip t
-        → Follows (after_static half_id_eq half ip mac) rows t new after
+    pub set : (mac : Mac) → Follows (after_change half_id_eq (change.Static mac) None half ip) rows t new after → Follows (after_static half_id_eq half ip mac) rows t new after
     unfolding after_static
-    set mac is at = record { parts = λ p. same_parts _ _ is at p }
-
-    pub set_first : (mac : Mac) → KnowsArms half_id_eq rows t → is_some found ≡ false → entries_of new ≡ entries_of rows ++ resolved Static mac (new_entry half ip) ∷ [] → after ≡ t
-        → Follows (after_static half_id_eq half ip mac) rows t new after
-    unfolding after_static
-    set_first mac known absent is at = record {
-      parts = λ p. same_parts _ _ (is ∙ put_new half ip (resolved Static mac) (entries_of rows) (none_there found absent)) (at ∙ untimed_absent half ip rows t known (none_there found absent)) p;
-    }
+    set mac follows = record { parts = λ p. follows.parts p }
 
     -- ---- a timer's turn
 
@@ -146,6 +149,11 @@ module _ (rows new : List Kept) (t after : TimersOf HalfId) where
     turn_back Removed (GivesUp n) is = cc
     turn_back Removed Removed is = refl
 
+    -- the timer of which it is the turn stands no more
+    none_stopped : (f : ArpEntryOf HalfId → ArpEntryOf HalfId) (deadline : ℕ) → timer_at half_id_eq half ip t ≡ None → (p : Parts)
+        → timed_entry half_id_eq deadline half ip f (untimed half_id_eq half ip (parts_with rows t p)) ≡ timed_entry half_id_eq deadline half ip f (parts_with rows t p)
+    none_stopped f deadline taken p = ap (λ u. timed_entry half_id_eq deadline half ip f (parts_with rows u p)) (untaken half ip t taken)
+
     turns : (now : ℕ) (w : TurnOf) → IsTurn w → (p : Parts) → turned half_id_eq now half ip (parts_with rows t p) w ≡ after_turn half_id_eq now half ip (parts_with rows t p)
     unfolding after_turn IsTurn
     turns now w is p = by found refl
@@ -158,15 +166,15 @@ module _ (rows new : List Kept) (t after : TimersOf HalfId) where
             ap (turned half_id_eq now half ip (parts_with rows t p)) (sym (turn_back (turn_of e) w back))
 
     module _ (now : ℕ) (told : Turn) (is_told : Some told ≡ option_map (λ (e : ArpEntryOf HalfId). turn_as (turn_of e)) found) where
-      pub turned_ask : told ≡ turn.Ask → entries_of new ≡ with_entry half_id_eq half ip asked (entries_of rows) → after ≡ after_arm (now + request_time) (Arp half ip) t
+      pub turned_ask : told ≡ turn.Ask → timer_at half_id_eq half ip t ≡ None → Follows (after_change half_id_eq change.Asked (Some (now + request_time)) half ip) rows t new after
           → Follows (after_turn half_id_eq now half ip) rows t new after
       unfolding IsTurn
-      turned_ask so is at = record { parts = λ p. same_parts _ _ is at p ∙ turns now Ask (sym is_told ∙ ap Some so) p }
+      turned_ask so taken follows = record { parts = λ p. follows.parts p ∙ none_stopped asked (now + request_time) taken p ∙ turns now Ask (sym is_told ∙ ap Some so) p }
 
-      pub turned_down : (n : ℕ) → told ≡ turn.WentDown n → entries_of new ≡ with_entry half_id_eq half ip given_up (entries_of rows) → after ≡ after_arm (now + down_time) (Arp half ip) t
+      pub turned_down : (n : ℕ) → told ≡ turn.WentDown n → timer_at half_id_eq half ip t ≡ None → Follows (after_change half_id_eq change.Down (Some (now + down_time)) half ip) rows t new after
           → Follows (after_turn half_id_eq now half ip) rows t new after
       unfolding IsTurn
-      turned_down n so is at = record { parts = λ p. same_parts _ _ is at p ∙ turns now (GivesUp n) (sym is_told ∙ ap Some so) p }
+      turned_down n so taken follows = record { parts = λ p. follows.parts p ∙ none_stopped given_up (now + down_time) taken p ∙ turns now (GivesUp n) (sym is_told ∙ ap Some so) p }
 
       pub turned_out : told ≡ turn.Removed → entries_of new ≡ filter (λ (e : ArpEntryOf HalfId). not (is_place half_id_eq half ip e.half e.ip)) (entries_of rows)
           → after ≡ without_timers_where (is_place half_id_eq half ip) t → Follows (after_turn half_id_eq now half ip) rows t new after

@@ -1,8 +1,9 @@
 pub mod Numbers
 pub mod Rows
+pub mod Before
+pub mod Order
 pub mod Removal
 pub mod Edits
 pub mod Followed
-pub mod Listed
 pub mod Known
 pub mod Armed

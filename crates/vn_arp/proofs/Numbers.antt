@@ -1,7 +1,7 @@
 -- The timers that stand are those whose numbers are told, as timers are stopped and armed.
 use Rattle.std.proofs.Common.{◌≡◌, ℕ, ◌<◌, ◌+◌, Bool, true, false, cond, not, ◌==◌, List, [], ◌∷◌, Option, Some, None, IfSome, refl, sym, ap, ap₂, subst, ◌∙◌, arith}
 use Rattle.std.specs.Bool.{Decides}
-use Rattle.std.specs.List.{All, AllByRecursion, list_any, filter}
+use Rattle.std.specs.List.{All, AllByRecursion, list_any, filter, find}
 use Rattle.std.specs.Ordering.{match_ordering}
 use Rattle.std.specs.declared.cmp.Ordering.{Ordering}
 use Rattle.std.specs.declared.cmp.Ordering.TheVariants.{Less, Equal, Greater}
@@ -29,6 +29,10 @@ module _ {A : Type 0} where
   all_by_both P Q R then [] ps qs = ps
   all_by_both P Q R then (x ∷ xs) ps qs = (then x ps.0 qs.0, all_by_both P Q R then xs ps.1 qs.1)
 
+  pub weaker : (P Q : A → Type 0) → ((x : A) → P x → Q x) → (xs : List A) → AllByRecursion P xs → AllByRecursion Q xs
+  weaker P Q then [] ps = tt
+  weaker P Q then (x ∷ xs) ps = (then x ps.0, weaker P Q then xs ps.1)
+
   pub all_from_none : (p : A → Bool) (xs : List A) → list_any p xs ≡ false → AllByRecursion (λ x. p x ≡ false) xs
   all_from_none p [] none = tt
   all_from_none p (x ∷ xs) none = let parts = or_parts (p x) _ none in (parts.0, all_from_none p xs parts.1)
@@ -37,6 +41,11 @@ module _ {A : Type 0} where
   pub filter_alike : (p q : A → Bool) (xs : List A) → AllByRecursion (λ x. p x ≡ q x) xs → filter p xs ≡ filter q xs
   filter_alike p q [] alike = refl
   filter_alike p q (x ∷ xs) alike = ap₂ (λ (b : Bool) ys. cond b (x ∷ ys) ys) alike.0 (filter_alike p q xs alike.1)
+
+  -- and find the same one
+  pub find_alike : (p q : A → Bool) (xs : List A) → AllByRecursion (λ x. p x ≡ q x) xs → find p xs ≡ find q xs
+  find_alike p q [] alike = refl
+  find_alike p q (x ∷ xs) alike = ap₂ (λ (b : Bool) o. cond b (Some x) o) alike.0 (find_alike p q xs alike.1)
 
 -- ---- a timer more
 
@@ -125,14 +134,7 @@ module _ {N : Type 0} (same : N → N → Bool) (decides : (g h : N) → Decides
   pub place_itself : (half : N) (ip : Ip4) → is_place same half ip half ip ≡ true
   place_itself half ip = test_from_place same decides half ip half ip (record { halves = refl; addresses = refl })
 
-  -- one timer is not at two places
-  timers_apart : (half : N) (ip : Ip4) (own : N) (at : Ip4) → is_place same half ip own at ≡ false → (what : TimerOf N)
-      → is_timer_where (is_place same half ip) what ≡ true → is_timer_where (is_place same own at) what ≡ false
-  timers_apart half ip own at apart (Arp g a) is =
-      let there = place_from_test same decides half ip g a is in
-      (λ i. is_place same own at (there.halves i) (there.addresses i)) ∙ place_turned half ip own at ∙ apart
-  timers_apart half ip own at apart (Ping id arm) is = refl
-
+  -- the timers of one place are those of the other
   timers_there : (half : N) (ip : Ip4) (own : N) (at : Ip4) → is_place same half ip own at ≡ true → (what : TimerOf N)
       → is_timer_where (is_place same own at) what ≡ is_timer_where (is_place same half ip) what
   timers_there half ip own at is what =
@@ -172,37 +174,39 @@ module _ {N : Type 0} (same : N → N → Bool) (decides : (g h : N) → Decides
     -- the timers of some places go, and their numbers
     pub told-without : (gone : N → Ip4 → Bool) (others : N → Ip4 → Option ℕ) → ((own : N) (at : Ip4) → others own at ≡ cond (gone own at) None (arms own at))
         → Tells same others (without_timers_where gone t)
-    told-without gone others left = record {
-      tells = λ own at. All-from_recursion _ _ (at_place own at (gone own at) refl);
-      given = λ own at. below own at (gone own at) (left own at);
-      apart = distinct_filter keep one_number t.standing known.apart;
-    }
+    told-without gone others left = stopped-where (λ (e : Timed N). not (is_timer_where gone e.1)) none_left
       where
-        keep : Timed N → Bool
-        keep e = not (is_timer_where gone e.1)
-
         gone_there : (own : N) (at : Ip4) (what : TimerOf N) → is_timer_where (is_place same own at) what ≡ true → is_timer_where gone what ≡ gone own at
         gone_there own at (Arp g a) is = let there = place_from_test same decides own at g a is in λ i. gone (there.halves i) (there.addresses i)
         gone_there own at (Ping id arm) is = cc
 
-        none_left : (own : N) (at : Ip4) → gone own at ≡ true → (e : Timed N) → keep e ≡ true → is_timer_where (is_place same own at) e.1 ≡ false
-        none_left own at goes e stays = false_from_ne_true _ (λ is. both_ways (keep e) (ap not (gone_there own at e.1 is ∙ goes)) stays)
+        none_left : (own : N) (at : Ip4) → gone own at ≡ true → (e : Timed N) → not (is_timer_where gone e.1) ≡ true → is_timer_where (is_place same own at) e.1 ≡ false
+        none_left own at goes e stays = false_from_ne_true _ (λ is. both_ways _ (ap not (gone_there own at e.1 is ∙ goes)) stays)
 
-        at_place : (own : N) (at : Ip4) (b : Bool) → gone own at ≡ b → AllByRecursion (λ (e : Timed N). is_timer_where (is_place same own at) e.1 ≡ is_numbered (others own at) e) (filter keep t.standing)
-        at_place own at true is =
-            let none : others own at ≡ None = left own at ∙ ap (λ b. cond b None (arms own at)) is in
-            subst (λ arm. AllByRecursion (λ (e : Timed N). is_timer_where (is_place same own at) e.1 ≡ is_numbered arm e) (filter keep t.standing)) (sym none)
-            (recursion_from_All (λ (e : Timed N). is_timer_where (is_place same own at) e.1 ≡ false) _
-            (All-weaker (λ (e : Timed N). keep e ≡ true) (λ (e : Timed N). is_timer_where (is_place same own at) e.1 ≡ false) (none_left own at is) _ (filter_passes keep t.standing)))
-        at_place own at false is =
-            let here : others own at ≡ arms own at = left own at ∙ ap (λ b. cond b None (arms own at)) is in
-            subst (λ arm. AllByRecursion (λ (e : Timed N). is_timer_where (is_place same own at) e.1 ≡ is_numbered arm e) (filter keep t.standing)) (sym here)
-            (recursion_from_All (λ (e : Timed N). is_timer_where (is_place same own at) e.1 ≡ is_numbered (arms own at) e) _
-            (All-filter keep (λ (e : Timed N). is_timer_where (is_place same own at) e.1 ≡ is_numbered (arms own at) e) t.standing (known.tells own at)))
+        -- whichever are kept, if none is kept of a place that goes
+        stopped-where : (keep : Timed N → Bool) → ((own : N) (at : Ip4) → gone own at ≡ true → (e : Timed N) → keep e ≡ true → is_timer_where (is_place same own at) e.1 ≡ false)
+            → Tells same others (record t { standing = filter keep t.standing })
+        stopped-where keep none_left = record {
+          tells = λ own at. All-from_recursion _ _ (at_place own at (gone own at) refl);
+          given = λ own at. below own at (gone own at) (left own at);
+          apart = distinct_filter keep one_number t.standing known.apart;
+        }
+          where
+            at_place : (own : N) (at : Ip4) (b : Bool) → gone own at ≡ b → AllByRecursion (λ (e : Timed N). is_timer_where (is_place same own at) e.1 ≡ is_numbered (others own at) e) (filter keep t.standing)
+            at_place own at true is =
+                let none : others own at ≡ None = left own at ∙ ap (λ b. cond b None (arms own at)) is in
+                subst (λ arm. AllByRecursion (λ (e : Timed N). is_timer_where (is_place same own at) e.1 ≡ is_numbered arm e) (filter keep t.standing)) (sym none)
+                (recursion_from_All (λ (e : Timed N). is_timer_where (is_place same own at) e.1 ≡ false) _
+                (All-weaker (λ (e : Timed N). keep e ≡ true) (λ (e : Timed N). is_timer_where (is_place same own at) e.1 ≡ false) (none_left own at is) _ (filter_passes keep t.standing)))
+            at_place own at false is =
+                let here : others own at ≡ arms own at = left own at ∙ ap (λ b. cond b None (arms own at)) is in
+                subst (λ arm. AllByRecursion (λ (e : Timed N). is_timer_where (is_place same own at) e.1 ≡ is_numbered arm e) (filter keep t.standing)) (sym here)
+                (recursion_from_All (λ (e : Timed N). is_timer_where (is_place same own at) e.1 ≡ is_numbered (arms own at) e) _
+                (All-filter keep (λ (e : Timed N). is_timer_where (is_place same own at) e.1 ≡ is_numbered (arms own at) e) t.standing (known.tells own at)))
 
-        below : (own : N) (at : Ip4) (b : Bool) → others own at ≡ cond b None (arms own at) → IfSome (others own at) (λ arm. arm < t.armed)
-        below own at true is = subst (λ arm. IfSome arm (λ arm. arm < t.armed)) (sym is) tt
-        below own at false is = subst (λ arm. IfSome arm (λ arm. arm < t.armed)) (sym is) (known.given own at)
+            below : (own : N) (at : Ip4) (b : Bool) → others own at ≡ cond b None (arms own at) → IfSome (others own at) (λ arm. arm < t.armed)
+            below own at true is = subst (λ arm. IfSome arm (λ arm. arm < t.armed)) (sym is) tt
+            below own at false is = subst (λ arm. IfSome arm (λ arm. arm < t.armed)) (sym is) (known.given own at)
 
     -- a timer is armed where none stands, and its number is told
     pub told-armed : (half : N) (ip : Ip4) (deadline : ℕ) (others : N → Ip4 → Option ℕ)

@@ -15,7 +15,7 @@ use Rattle.vn_rules.specs.Timers.{Timed}
 use Rattle.vn_rules.proofs.ArpPlaces.{place_from_test}
 use Rattle.vn_rules.proofs.ListTests.{found-some}
 use Rattle.vn_arp.specs.Kept.{KeptOf, entries_of, is_numbered, without_numbered, without_gone, is_kept_at, arm_of, KnowsArms}
-use Rattle.vn_arp.proofs.Numbers.{filter_alike, none-stopped, place_itself, told-without}
+use Rattle.vn_arp.proofs.Numbers.{filter_alike, none-stopped, place_itself, told-without, weaker}
 use Rattle.vn_arp.proofs.Rows.{goes, left, arms_left}
 
 module _ {A : Type 0} where
@@ -23,10 +23,6 @@ module _ {A : Type 0} where
   each_case : {I : Type 0} (P : I → A → Type 0) (xs : List A) → ((i : I) → AllByRecursion (P i) xs) → AllByRecursion (λ x. (i : I) → P i x) xs
   each_case P [] all = tt
   each_case P (x ∷ xs) all = (λ i. (all i).0, each_case P xs (λ i. (all i).1))
-
-  weaker : (P Q : A → Type 0) → ((x : A) → P x → Q x) → (xs : List A) → AllByRecursion P xs → AllByRecursion Q xs
-  weaker P Q then [] ps = tt
-  weaker P Q then (x ∷ xs) ps = (then x ps.0, weaker P Q then xs ps.1)
 
   -- an element that passes has what all have
   one_of : (P : A → Type 0) (p : A → Bool) (C : Type 0) → ((x : A) → P x → p x ≡ true → C) → (xs : List A) → AllByRecursion P xs → list_any p xs ≡ true → C

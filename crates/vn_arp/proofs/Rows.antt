@@ -7,6 +7,7 @@ use Rattle.std.specs.Option.{option_map, option_and_then, option_or}
 use Rattle.std.proofs.lemmas.Bool.{and_parts, and_from, both_ways, ltb-true, ltb-false, not-true}
 use Rattle.std.proofs.lemmas.List.{map-append}
 use Rattle.std.proofs.lemmas.List.Folds.{find-append}
+use Rattle.std.proofs.lemmas.List.Sums.{prefix_len-le-length}
 use Rattle.vn_types.specs.declared.address.Ip4.{Ip4}
 use Rattle.vn_types.proofs.ListMaps.{filter_map_same, any_map_same, find_map_same}
 use Rattle.vn_rules.specs.declared.arp.ArpEntryOf.{ArpEntryOf}
@@ -54,6 +55,17 @@ module _ {A : Type 0} (p : A → Bool) where
       by : (b : Bool) → nat_lt (position_or_len p xs) (length xs) ≡ b → None ≡ cond b (Some (position_or_len p xs)) None → find p xs ≡ None
       by true less is = cc
       by false not_less is = (found_or_past xs d).1 (ltb-false _ _ not_less)
+
+  -- where none is, all are before
+  pub all-before : (xs : List A) → None ≡ position p xs → length xs ≡ position_or_len p xs
+  all-before xs is = by (nat_lt (position_or_len p xs) (length xs)) refl is
+    where
+      by : (b : Bool) → nat_lt (position_or_len p xs) (length xs) ≡ b → None ≡ cond b (Some (position_or_len p xs)) None → length xs ≡ position_or_len p xs
+      by true less is = cc
+      by false not_less is =
+          let past : length xs ≤ position_or_len p xs = ltb-false _ _ not_less in
+          let within : position_or_len p xs ≤ length xs = prefix_len-le-length (λ x. not (p x)) xs in
+          omega arith
 
   -- to write there is to change what passes, where no two do
   pub written-there : (y : A) (xs : List A) → are_distinct (both_pass p) xs ≡ true → position_or_len p xs < length xs → slice_set xs (position_or_len p xs) y ≡ map (λ x. cond (p x) y x) xs

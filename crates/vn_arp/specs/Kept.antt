@@ -1,5 +1,5 @@
 -- The entries of a stack, each with the arm number of its timer, beside the stack's timers.
-use Rattle.std.specs.Prelude.{◌≡◌, ℕ, ◌<◌, Bool, true, false, ◌==◌, not, List, [], ◌∷◌, map, Option, Some, None, IfSome, All, if◌then◌else◌}
+use Rattle.std.specs.Prelude.{◌≡◌, ℕ, ◌<◌, ◌^◌, Bool, true, false, ◌==◌, not, List, [], ◌∷◌, map, Option, Some, None, IfSome, All, if◌then◌else◌}
 use Rattle.std.specs.List.{find, filter}
 use Rattle.std.specs.Option.{option_and_then}
 use Rattle.vn_types.specs.declared.address.Ip4.{Ip4}
@@ -69,6 +69,15 @@ module _ {N : Type 0} (same : N → N → Bool) where
   -- the numbers that are kept are those of the entries' timers
   abbrev pub KnowsArms : List (KeptOf N) → TimersOf N → Type 0
   KnowsArms rows t = Tells (λ half ip. arm_of half ip rows) t
+
+  -- what a call needs that may arm a timer for a time after now
+  pub record MayArm (now : ℕ) (rows : List (KeptOf N)) (t : TimersOf N) : Type 0 where
+    -- the deadline fits
+    pub clock : now < 2 ^ 63
+    -- and its arm number
+    pub armed : t.armed < 2 ^ 63
+    -- the numbers that are kept are those of the entries' timers
+    pub knows : KnowsArms rows t
 
   -- the entry of an address on a half is changed in its place, or made last, and has that arm number
   pub record IsPut (half : N) (ip : Ip4) (f : ArpEntryOf N → ArpEntryOf N) (arm : Option ℕ) (old new : List (KeptOf N)) : Type 0 where

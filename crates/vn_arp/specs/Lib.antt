@@ -1,4 +1,5 @@
 pub mod Kept
+pub mod Changes
 pub mod Answers
 pub mod Stacks
 pub mod Listing

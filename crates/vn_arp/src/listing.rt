@@ -1,42 +1,37 @@
-ghost use Rattle.std.specs.Prelude.{◌≡◌};
-ghost use Rattle.std.specs.List.{count_by};
-ghost use Rattle.std.specs.Option.{option_map};
-ghost use Rattle.vn_types.specs.declared.interface.HalfId.{HalfId};
-ghost use Rattle.vn_arp.specs.Kept.{KeptOf, entries_of};
-ghost use Rattle.vn_arp.specs.Listing.{entry_before, half_before, nth_entry, row_of, side_before};
+//! The order of a listing: by address, number of the pair and side.
 
-use crate::neighbour::Neighbour;
-use vn_rules::ArpState;
-use vn_types::{HalfId, Ip4, Mac, Side};
+ghost use Rattle.std.specs.Prelude.{◌≡◌, ◌<◌, vec_len, vec_capacity};
+ghost use Rattle.std.specs.List.{position_or_len};
+ghost use Rattle.vn_arp.specs.Listing.{at_before, half_before, side_before, with_listed};
 
-/// What a listing tells of the entry at a place by address, number of the pair and side, counted from 0.
-pub(crate) fn row_at(
-    neighbours: &[Neighbour],
-    place: u64,
-) -> Option<(HalfId, Ip4, Option<Mac>, ArpState)>
-    ensures { result ≡ option_map row_of (nth_entry place (entries_of neighbours.now)) }
+use crate::gone::At;
+use vn_types::{HalfId, Side};
+
+/// Lists a place before the first that it comes before. There is room for it.
+pub(crate) fn list(order: &mut Vec<At>, at: At)
+    requires { vec_len order.old < vec_capacity order.old }
+    ensures { order.new.items ≡ with_listed at order.old.items }
 {
-    let neighbour = neighbours
-        .iter()
-        .find(|neighbour| count_before(neighbours, neighbour) == place)?;
-    Some(neighbour.row())
+    let place = place_for(order.as_slice(), at);
+    let Ok(()) = order.insert(place, at) else {
+        unreachable!()
+    };
 }
 
-/// The number of entries that come before an entry.
-fn count_before(neighbours: &[Neighbour], limit: &Neighbour) -> u64
-    ensures { result ≡ count_by (λ (k : KeptOf HalfId). entry_before k.entry limit.now.entry) neighbours.now }
+/// The number of those before the first that a place comes before.
+fn place_for(order: &[At], at: At) -> usize
+    ensures { result ≡ position_or_len (at_before at) order.now }
 {
-    neighbours
-        .iter()
-        .filter(|neighbour| is_before(neighbour, limit))
-        .count() as u64
+    match order.iter().position(|other| is_before(at, *other)) {
+        Some(place) => place,
+        None => order.len(),
+    }
 }
 
-fn is_before(neighbour: &Neighbour, other: &Neighbour) -> bool
-    ensures { result ≡ entry_before neighbour.now.entry other.now.entry }
+fn is_before(at: At, other: At) -> bool
+    ensures { result ≡ at_before at other }
 {
-    let (ip, limit) = (neighbour.ip().0, other.ip().0);
-    ip < limit || (ip == limit && is_half_before(neighbour.half(), other.half()))
+    at.ip.0 < other.ip.0 || (at.ip.0 == other.ip.0 && is_half_before(at.half, other.half))
 }
 
 fn is_half_before(half: HalfId, other: HalfId) -> bool

@@ -1,19 +1,20 @@
-ghost use Rattle.std.specs.Prelude.{◌≡◌, ◌+◌, ◌<◌, ◌^◌, Bool, true, false, Some, None, length, IfOk, OnOk, OnErr, nat_le};
+ghost use Rattle.std.specs.Prelude.{◌≡◌, ◌<◌, ◌^◌, false, None, IfOk, IfSome, OnOk, OnErr};
 ghost use Rattle.vn_types.specs.Interfaces.{half_id_eq};
 ghost use Rattle.vn_types.specs.PerStack.{ChangesOnly};
-ghost use Rattle.vn_rules.specs.declared.arp.ArpState.TheVariants.{Learnt, Static};
 ghost use Rattle.vn_rules.specs.declared.timer.TimerOf.TheVariants.{Arp};
-ghost use Rattle.vn_rules.specs.Arp.{new_entry, known_mac, holds_all, holding, resolved, is_static, is_down_state};
-ghost use Rattle.vn_rules.specs.Resolution.{turn_of, asked, given_up, request_time, down_time, learnt_time};
-ghost use Rattle.vn_rules.specs.Timers.{after_arm, has_timer};
+ghost use Rattle.vn_rules.specs.Arp.{new_entry, known_mac, holds_all, holding, is_static, is_down_state};
+ghost use Rattle.vn_rules.specs.Resolution.{turn_of};
+ghost use Rattle.vn_rules.specs.Timers.{has_timer};
 ghost use Rattle.vn_callout.specs.Stacks.{of as timers_of};
 ghost use Rattle.vn_arp.specs.Kept.{is_kept_at, without_numbered};
 ghost use Rattle.vn_arp.specs.Answers.{turn_as};
-ghost use Rattle.vn_arp.specs.Listing.{row_of};
+ghost use Rattle.vn_arp.specs.Changes.{MayBecome, arm_for, armed_for, changed, released_by, settled};
+ghost use Rattle.vn_arp.specs.Listing.{at_of, row_of};
 
 use crate::answers::Turn;
+use crate::change::Change;
+use crate::gone::At;
 use crate::packets::Packets;
-use crate::times::{DOWN_TIME, LEARNT_TIME, REQUEST_TIME};
 use bytes::Bytes;
 use std::alloc::Global;
 use std::marker::Model;
@@ -54,17 +55,26 @@ impl Model for Neighbour {
 
 impl Neighbour {
     /// One of which nothing is known, as the first request goes out.
-    pub(crate) fn new(alloc: Global, half: HalfId, ip: Ip4) -> Neighbour
-        ensures { result ≡ record { entry = new_entry half ip; arm = None } }
+    pub(crate) fn new(alloc: Global, at: At) -> Neighbour
+        ensures { result ≡ record { entry = new_entry at.half at.ip; arm = None } }
     {
         Neighbour {
-            half,
-            ip,
+            half: at.half,
+            ip: at.ip,
             state: ArpState::Incomplete,
             mac: None,
             requests: 1,
             held: Packets::new(alloc),
             arm: None,
+        }
+    }
+
+    pub(crate) fn at(&self) -> At
+        ensures { result ≡ at_of self.now.entry }
+    {
+        At {
+            half: self.half,
+            ip: self.ip,
         }
     }
 
@@ -94,10 +104,10 @@ impl Neighbour {
     }
 
     /// Whether it is the neighbour of that address on the half.
-    pub(crate) fn is_at(&self, half: HalfId, ip: Ip4) -> bool
-        ensures { result ≡ is_kept_at half_id_eq half ip self.now }
+    pub(crate) fn is_at(&self, at: At) -> bool
+        ensures { result ≡ is_kept_at half_id_eq at.half at.ip self.now }
     {
-        same_half(self.half, half) && self.ip.0 == ip.0
+        same_half(self.half, at.half) && self.ip.0 == at.ip.0
     }
 
     /// Its hardware address, where it is known.
@@ -146,35 +156,59 @@ impl Neighbour {
         self.held.hold(packet)
     }
 
-    /// Its hardware address is known now, and nothing waits for it any more.
-    pub(crate) fn resolve(&mut self, state: ArpState, mac: Mac) -> Packets
+    /// It becomes what the change says. What waited for it, and waits no more, is handed out.
+    pub(crate) fn apply(&mut self, change: Change) -> Packets
+        requires { MayBecome change (Some self.old.entry) }
+        ensures released { result ≡ released_by change self.old.entry.held }
+        ensures changed { self.new ≡ record self.old { entry = changed change self.old.entry } }
+    {
+        match change {
+            Change::Asked => {
+                self.requests += 1;
+                self.held.none()
+            }
+            Change::Down => self.settle(ArpState::Down, self.mac),
+            Change::Learnt(mac) => self.settle(ArpState::Learnt, Some(mac)),
+            Change::Static(mac) => self.settle(ArpState::Static, Some(mac)),
+        }
+    }
+
+    /// It is asked no more, and nothing waits for it any more.
+    fn settle(&mut self, state: ArpState, mac: Option<Mac>) -> Packets
         ensures released { result ≡ self.old.entry.held }
-        ensures resolved { self.new ≡ record self.old { entry = resolved state mac self.old.entry } }
+        ensures settled { self.new ≡ record self.old { entry = settled state mac self.old.entry } }
     {
         self.state = state;
-        self.mac = Some(mac);
+        self.mac = mac;
         self.requests = 0;
         self.held.take_all()
     }
 
-    /// Arms its timer.
-    pub(crate) fn start(
+    /// Stops its timer, where one stands, and arms it for the deadline, where there is one.
+    pub(crate) fn retime(
         &mut self,
-        deadline: u64,
+        deadline: Option<u64>,
         sid: Sid,
         wheel: &mut Wheel,
     ) -> Result<(), NoMemory>
-        requires { (timers_of wheel.old sid.0).armed < 2 ^ 63 }
-        ensures armed { OnOk result (timers_of wheel.new sid.0
-            ≡ after_arm deadline (Arp self.old.entry.half self.old.entry.ip) (timers_of wheel.old sid.0)) }
+        requires { IfSome deadline (λ _. (timers_of wheel.old sid.0).armed < 2 ^ 63) }
+        ensures timed { OnOk result (timers_of wheel.new sid.0
+            ≡ armed_for deadline (Arp self.old.entry.half self.old.entry.ip)
+            (without_numbered self.old.arm (timers_of wheel.old sid.0))) }
         ensures number { OnOk result (self.new
-            ≡ record self.old { arm = Some (timers_of wheel.old sid.0).armed }) }
-        ensures unused { OnOk result
-            (has_timer (timers_of wheel.old sid.0).armed (timers_of wheel.old sid.0) ≡ false) }
-        ensures no_timer { OnErr result (timers_of wheel.new sid.0 ≡ timers_of wheel.old sid.0) }
-        ensures no_number { OnErr result (self.new ≡ self.old) }
+            ≡ record self.old { arm = arm_for deadline (timers_of wheel.old sid.0) }) }
+        ensures unused { OnOk result (IfSome deadline (λ _. has_timer (timers_of wheel.old sid.0).armed
+            (without_numbered self.old.arm (timers_of wheel.old sid.0)) ≡ false)) }
+        ensures stopped { OnErr result (timers_of wheel.new sid.0
+            ≡ without_numbered self.old.arm (timers_of wheel.old sid.0)) }
+        ensures no_number { OnErr result (self.new ≡ record self.old { arm = None }) }
         ensures others { ChangesOnly sid.0 (timers_of wheel.old) (timers_of wheel.new) }
     {
+        stop_timer(self.arm, sid, wheel);
+        self.arm = None;
+        let Some(deadline) = deadline else {
+            return Ok(());
+        };
         let what = Timer::Arp {
             half: self.half,
             ip: self.ip,
@@ -182,106 +216,6 @@ impl Neighbour {
         let arm = wheel.arm(sid, deadline, what)?;
         self.arm = Some(arm);
         Ok(())
-    }
-
-    /// Stops its timer, where one stands.
-    fn stop(&mut self, sid: Sid, wheel: &mut Wheel)
-        ensures stopped { timers_of wheel.new sid.0
-            ≡ without_numbered self.old.arm (timers_of wheel.old sid.0) }
-        ensures number { self.new ≡ record self.old { arm = None } }
-        ensures others { ChangesOnly sid.0 (timers_of wheel.old) (timers_of wheel.new) }
-    {
-        stop_timer(self.arm, sid, wheel);
-        self.arm = None;
-    }
-
-    /// One request more is sent, and the timer waits for the reply to it.
-    pub(crate) fn ask(&mut self, now: u64, sid: Sid, wheel: &mut Wheel) -> Result<(), NoMemory>
-        requires clock { now < 2 ^ 63 }
-        requires armed { (timers_of wheel.old sid.0).armed < 2 ^ 63 }
-        requires few { self.old.entry.requests < REQUESTS_MAX }
-        ensures asked { OnOk result (self.new ≡ record {
-          entry = asked self.old.entry;
-          arm = Some (timers_of wheel.old sid.0).armed;
-        }) }
-        ensures armed { OnOk result (timers_of wheel.new sid.0
-            ≡ after_arm (now + request_time) (Arp self.old.entry.half self.old.entry.ip)
-            (timers_of wheel.old sid.0)) }
-        ensures unused { OnOk result
-            (has_timer (timers_of wheel.old sid.0).armed (timers_of wheel.old sid.0) ≡ false) }
-        ensures kept { OnErr result (self.new ≡ self.old) }
-        ensures no_timer { OnErr result (timers_of wheel.new sid.0 ≡ timers_of wheel.old sid.0) }
-        ensures others { ChangesOnly sid.0 (timers_of wheel.old) (timers_of wheel.new) }
-    {
-        self.start(now + REQUEST_TIME, sid, wheel)?;
-        self.requests += 1;
-        Ok(())
-    }
-
-    /// It does not reply, and nothing waits for it any more. It is not asked again before its timer.
-    pub(crate) fn give_up(&mut self, now: u64, sid: Sid, wheel: &mut Wheel) -> Result<(), NoMemory>
-        requires clock { now < 2 ^ 63 }
-        requires armed { (timers_of wheel.old sid.0).armed < 2 ^ 63 }
-        ensures given_up { OnOk result (self.new ≡ record {
-          entry = given_up self.old.entry;
-          arm = Some (timers_of wheel.old sid.0).armed;
-        }) }
-        ensures armed { OnOk result (timers_of wheel.new sid.0
-            ≡ after_arm (now + down_time) (Arp self.old.entry.half self.old.entry.ip)
-            (timers_of wheel.old sid.0)) }
-        ensures unused { OnOk result
-            (has_timer (timers_of wheel.old sid.0).armed (timers_of wheel.old sid.0) ≡ false) }
-        ensures kept { OnErr result (self.new ≡ self.old) }
-        ensures no_timer { OnErr result (timers_of wheel.new sid.0 ≡ timers_of wheel.old sid.0) }
-        ensures others { ChangesOnly sid.0 (timers_of wheel.old) (timers_of wheel.new) }
-    {
-        self.start(now + DOWN_TIME, sid, wheel)?;
-        self.state = ArpState::Down;
-        self.requests = 0;
-        self.held.take_all();
-        Ok(())
-    }
-
-    /// Its hardware address is set by hand, and it has no timer. What waited for it is handed out.
-    pub(crate) fn set(&mut self, mac: Mac, sid: Sid, wheel: &mut Wheel) -> Packets
-        ensures released { result ≡ self.old.entry.held }
-        ensures set { self.new ≡ record { entry = resolved Static mac self.old.entry; arm = None } }
-        ensures stopped { timers_of wheel.new sid.0
-            ≡ without_numbered self.old.arm (timers_of wheel.old sid.0) }
-        ensures others { ChangesOnly sid.0 (timers_of wheel.old) (timers_of wheel.new) }
-    {
-        self.stop(sid, wheel);
-        self.resolve(ArpState::Static, mac)
-    }
-
-    /// Its hardware address is learnt, with a new timer. What waited for it is handed out.
-    pub(crate) fn learn(
-        &mut self,
-        mac: Mac,
-        now: u64,
-        sid: Sid,
-        wheel: &mut Wheel,
-    ) -> Result<Packets, NoMemory>
-        requires clock { now < 2 ^ 63 }
-        requires armed { (timers_of wheel.old sid.0).armed < 2 ^ 63 }
-        ensures released { IfOk result (λ release. release ≡ self.old.entry.held) }
-        ensures learnt { OnOk result (self.new ≡ record {
-          entry = resolved Learnt mac self.old.entry;
-          arm = Some (timers_of wheel.old sid.0).armed;
-        }) }
-        ensures restarted { OnOk result (timers_of wheel.new sid.0
-            ≡ after_arm (now + learnt_time) (Arp self.old.entry.half self.old.entry.ip)
-            (without_numbered self.old.arm (timers_of wheel.old sid.0))) }
-        ensures unused { OnOk result (has_timer (timers_of wheel.old sid.0).armed
-            (without_numbered self.old.arm (timers_of wheel.old sid.0)) ≡ false) }
-        ensures kept { OnErr result (self.new ≡ record self.old { arm = None }) }
-        ensures stopped { OnErr result (timers_of wheel.new sid.0
-            ≡ without_numbered self.old.arm (timers_of wheel.old sid.0)) }
-        ensures others { ChangesOnly sid.0 (timers_of wheel.old) (timers_of wheel.new) }
-    {
-        self.stop(sid, wheel);
-        self.start(now + LEARNT_TIME, sid, wheel)?;
-        Ok(self.resolve(ArpState::Learnt, mac))
     }
 }
 

@@ -70,7 +70,14 @@ impl Packets {
         ensures all { result ≡ self.old }
         ensures none { self.new ≡ [] }
     {
-        let none = Packets::new(*self.items.allocator());
+        let none = self.none();
         mem::replace(self, none)
+    }
+
+    /// None, where these are.
+    pub(crate) fn none(&self) -> Packets
+        ensures { result ≡ [] }
+    {
+        Packets::new(*self.items.allocator())
     }
 }

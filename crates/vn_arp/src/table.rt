@@ -15,8 +15,8 @@ ghost use Rattle.vn_arp.specs.Listing.{nth_entry, row_of};
 ghost use Rattle.vn_arp.specs.Stacks.{of};
 
 use crate::answers::{Learned, Resolved, Turn};
-use crate::gone::{Gone, On, Uncovered};
-use crate::listing::row_at;
+use crate::change::Change;
+use crate::gone::{At, Gone, On, Uncovered};
 use crate::neighbours::Neighbours;
 use crate::packets::Packets;
 use bytes::Bytes;
@@ -62,7 +62,7 @@ impl ArpTable {
         ensures { result ≡ is_down half_id_eq half ip (entries_of (of self.now sid.0)) }
     {
         match self.stacks.at(sid) {
-            Some(neighbours) => neighbours.is_down(half, ip),
+            Some(neighbours) => neighbours.is_down(At { half, ip }),
             None => false,
         }
     }
@@ -71,7 +71,7 @@ impl ArpTable {
     pub fn hit(&self, sid: Sid, half: HalfId, ip: Ip4) -> Option<Mac>
         ensures { result ≡ hit half_id_eq half ip (entries_of (of self.now sid.0)) }
     {
-        self.stacks.at(sid)?.hit(half, ip)
+        self.stacks.at(sid)?.hit(At { half, ip })
     }
 
     /// What a listing tells of a stack's entry at a place by address, number of the pair and side, counted
@@ -79,7 +79,7 @@ impl ArpTable {
     pub fn at(&self, sid: Sid, place: u64) -> Option<(HalfId, Ip4, Option<Mac>, ArpState)>
         ensures { result ≡ option_map row_of (nth_entry place (entries_of (of self.now sid.0))) }
     {
-        row_at(self.stacks.at(sid)?.as_slice(), place)
+        self.stacks.at(sid)?.row_at(place)
     }
 
     /// What becomes of a datagram that a stack sends to a neighbour on a half: it is handed back with the
@@ -105,9 +105,8 @@ impl ArpTable {
         ensures others { ChangesOnly sid.0 (of self.old) (of self.new) }
         ensures other_timers { ChangesOnly sid.0 (timers_of wheel.old) (timers_of wheel.new) }
     {
-        self.stacks
-            .at_or_new(sid)?
-            .resolve(half, ip, packet, now, sid, wheel)
+        let neighbours = self.stacks.at_or_new(sid)?;
+        neighbours.resolve(At { half, ip }, packet, now, sid, wheel)
     }
 
     /// A stack receives an ARP packet by a half, and learns from it where it has an entry for the sender, or
@@ -135,15 +134,10 @@ impl ArpTable {
         ensures others { ChangesOnly sid.0 (of self.old) (of self.new) }
         ensures other_timers { ChangesOnly sid.0 (timers_of wheel.old) (timers_of wheel.new) }
     {
-        let release = self.stacks.at_or_new(sid)?.input(
-            half,
-            packet.spa,
-            packet.sha,
-            target_is_mine,
-            now,
-            sid,
-            wheel,
-        )?;
+        let release = self
+            .stacks
+            .at_or_new(sid)?
+            .input(half, target_is_mine, packet, now, sid, wheel)?;
         // "Now look at the opcode .. Send the packet to the (new) target hardware address".
         let reply = target_is_mine && packet.op == REQUEST;
         Ok(Learned { release, reply })
@@ -172,7 +166,8 @@ impl ArpTable {
         ensures others { ChangesOnly sid.0 (of self.old) (of self.new) }
         ensures other_timers { ChangesOnly sid.0 (timers_of wheel.old) (timers_of wheel.new) }
     {
-        self.stacks.at_or_new(sid)?.turn(half, ip, now, sid, wheel)
+        let at = At { half, ip };
+        self.stacks.at_or_new(sid)?.turn(at, now, sid, wheel)
     }
 
     /// The hardware address of a stack's neighbour on a half is set by hand (arp(8), `-s`). What waited for it
@@ -197,7 +192,7 @@ impl ArpTable {
     {
         self.stacks
             .at_or_new(sid)?
-            .set_static(half, ip, mac, sid, wheel)
+            .change(At { half, ip }, Change::Static(mac), None, sid, wheel)
     }
 
     /// The entries of a stack for an address are removed, on whatever half (arp(8), `-d`).

@@ -9,6 +9,6 @@ use Rattle.vn_arp.proofs.neighbours.Neighbours.find.Goals as goal
 
 pub returns : goal.returns
 returns c =
-    found_entry c.args.half c.args.ip c.args.self.now _ c.find.result
-    (find_from_yields_List (is_kept_at half_id_eq c.args.half c.args.ip) c.find.new.self _ c.find.result c.find.ensures.ran (YieldsList-from_slice c.self.inside.entries.items cc) (λ x b q k. search (rules, tests))
-    ∙ ap (find (is_kept_at half_id_eq c.args.half c.args.ip)) c.self.view_is)
+    found_entry c.args.at.half c.args.at.ip c.args.self.now _ c.find.result
+    (find_from_yields_List (is_kept_at half_id_eq c.args.at.half c.args.at.ip) c.find.new.self _ c.find.result c.find.ensures.ran (YieldsList-from_slice c.self.inside.entries.items cc) (λ x b q k. search (rules, tests))
+    ∙ ap (find (is_kept_at half_id_eq c.args.at.half c.args.at.ip)) c.self.view_is)

@@ -8,5 +8,5 @@ use Rattle.vn_arp.proofs.neighbours.Neighbours.place.Goals as goal
 
 pub returns : goal.returns
 returns c =
-    position_from_yields_List (is_kept_at half_id_eq c.args.half c.args.ip) c.position.new.self _ c.position.result c.position.ensures.ran (YieldsList-from_slice c.self.inside.entries.items cc) (λ x b q k. search (rules, tests))
-    ∙ ap (position (is_kept_at half_id_eq c.args.half c.args.ip)) c.self.view_is
+    position_from_yields_List (is_kept_at half_id_eq c.args.at.half c.args.at.ip) c.position.new.self _ c.position.result c.position.ensures.ran (YieldsList-from_slice c.self.inside.entries.items cc) (λ x b q k. search (rules, tests))
+    ∙ ap (position (is_kept_at half_id_eq c.args.at.half c.args.at.ip)) c.self.view_is
