@@ -1,93 +1,118 @@
--- Entries by number: what is found, and what a filter of their values leaves.
-use Rattle.std.proofs.Common.{◌≡◌, ◌≢◌, ℕ, Bool, true, false, not, cond, ◌==◌, eqb, List, [], ◌∷◌, ◌++◌, Option, Some, None, IfSome, refl, sym, subst, ap, ◌∙◌}
-use Rattle.std.specs.List.{AllByRecursion, IsDistinct, filter, list_any}
-use Rattle.std.specs.BTreeMap.{is_at}
+-- Entries by number, in order: what is found, and what a test of their values finds and leaves.
+use Rattle.std.proofs.Common.{◌≡◌, ◌≢◌, ℕ, ◌<◌, Bool, true, false, not, cond, ◌==◌, List, [], ◌∷◌, ◌++◌, find, Option, Some, None, IfSome, refl, sym, subst, ap, ap₂, ◌∙◌, arith}
+use Rattle.std.specs.List.{AllByRecursion, filter}
+use Rattle.std.specs.List.Sorted.{IsStrictlySortedBy}
+use Rattle.std.specs.BTreeMap.{is_at, insert_entry}
 use Rattle.std.specs.Cmp.{unsigned_ties}
-use Rattle.std.specs.Ordering.{nat_cmp}
+use Rattle.std.specs.Ordering.{is_eq, match_ordering, nat_cmp}
+use Rattle.std.specs.declared.cmp.Ordering.{Ordering}
+use Rattle.std.specs.declared.cmp.Ordering.TheVariants.{Less, Equal, Greater}
 use Rattle.std.specs.Map.{keys_of, lookup, values_of, remove_entry}
-use Rattle.std.specs.Option.{is_some, option_map}
-use Rattle.std.proofs.lemmas.Bool.{eqb-true, eq-eqb, ne_eqb, or_from, or_parts, cond-true, cond-false, false≢true}
-use Rattle.std.proofs.lemmas.Map.Made.{is_some-lookup}
-use Rattle.indexmap.specs.IndexMap.{insert_entry}
-use Rattle.vn_ifnet.specs.Kept.{at}
+use Rattle.std.specs.Option.{option_map}
+use Rattle.std.proofs.lemmas.Bool.{eqb-true, eq-eqb, ne_eqb, cond-true, cond-false}
+use Rattle.std.proofs.lemmas.Cmp.{ranked}
+use Rattle.vn_ifnet.specs.Kept.{told}
 
-none-listed : (x : ℕ) (ks : List ℕ) → AllByRecursion (λ y. eqb x y ≡ false) ks → list_any (eqb x) ks ≡ false
-none-listed x [] all = refl
-none-listed x (k ∷ ks) all = or_from (eqb x k) (list_any (eqb x) ks) all.0 (none-listed x ks all.1)
+-- ---- numbers
+
+pub at-itself : (n : ℕ) → is_at (nat_cmp n) n ≡ true
+at-itself n = sym (unsigned_ties n n) ∙ eq-eqb n n refl
+
+pub same-at : (n k : ℕ) → is_at (nat_cmp n) k ≡ true → n ≡ k
+same-at n k e = eqb-true n k (unsigned_ties n k ∙ e)
+
+pub apart-at : (n k : ℕ) → n ≢ k → is_at (nat_cmp n) k ≡ false
+apart-at n k ne = sym (unsigned_ties n k) ∙ ne_eqb n k ne
+
+pub is_greater : (n k : ℕ) → k < n → nat_cmp n k ≡ Greater
+is_greater n k less = by (nat_cmp n k) refl
+  where
+    by : (r : Ordering) → r ≡ nat_cmp n k → r ≡ Greater
+    by Less e = let l : n < k = ranked n k Less e in absurd (omega arith)
+    by Equal e = let s : n ≡ k = ranked n k Equal e in absurd (omega arith)
+    by Greater e = refl
 
 module _ {V : Type 0} where
-  -- a number under which something is found is listed
-  listed : (k : ℕ) (es : List (ℕ × V)) (v : V) → at k es ≡ Some v → list_any (eqb k) (keys_of es) ≡ true
-  listed k es v is = sym (is_some-lookup (λ q. k == q) es) ∙ ap is_some is
+  -- ---- what is found
+
+  none-above : (n : ℕ) (es : List (ℕ × V)) → AllByRecursion (λ k. nat_cmp n k ≡ Less) (keys_of es) → told n es ≡ None
+  none-above n [] above = refl
+  none-above n (e ∷ es) above = cond-false (is_at (nat_cmp n) e.0) (Some e.1) (told n es) (ap is_eq above.0) ∙ none-above n es above.1
 
   -- what holds of all that is found holds of each entry
-  pub each-entry : (P : ℕ → V → Type 0) (es : List (ℕ × V)) → IsDistinct eqb (keys_of es) → ((k : ℕ) → IfSome (at k es) (P k)) → AllByRecursion (λ (e : ℕ × V). P e.0 e.1) es
-  unfolding IsDistinct
-  each-entry P [] distinct all = tt
-  each-entry P (e ∷ es) distinct all = (here, each-entry P es distinct.1 rest)
+  pub each-entry : (P : ℕ → V → Type 0) (es : List (ℕ × V)) → IsStrictlySortedBy nat_cmp (keys_of es) → ((k : ℕ) → IfSome (told k es) (P k)) → AllByRecursion (λ (e : ℕ × V). P e.0 e.1) es
+  unfolding IsStrictlySortedBy
+  each-entry P [] ordered all = tt
+  each-entry P (e ∷ es) ordered all = (here, each-entry P es ordered.1 rest)
     where
       here : P e.0 e.1
-      here = subst (λ o. IfSome o (P e.0)) (cond-true (e.0 == e.0) (Some e.1) (at e.0 es) (eq-eqb e.0 e.0 refl)) (all e.0)
+      here = subst (λ o. IfSome o (P e.0)) (cond-true (is_at (nat_cmp e.0) e.0) (Some e.1) (told e.0 es) (at-itself e.0)) (all e.0)
 
-      rest : (k : ℕ) → IfSome (at k es) (P k)
-      rest k = by (at k es) refl
+      rest : (k : ℕ) → IfSome (told k es) (P k)
+      rest k = by (told k es) refl
         where
-          by : (o : Option V) → at k es ≡ o → IfSome o (P k)
+          by : (o : Option V) → told k es ≡ o → IfSome o (P k)
           by None is = tt
-          by (Some v) is = subst (λ o. IfSome o (P k)) (cond-false (k == e.0) (Some e.1) (at k es) (ne_eqb k e.0 apart) ∙ is) (all k)
+          by (Some v) is = subst (λ o. IfSome o (P k)) (cond-false (is_at (nat_cmp k) e.0) (Some e.1) (told k es) (apart-at k e.0 apart) ∙ is) (all k)
             where
               apart : k ≢ e.0
-              apart same = false≢true (sym (none-listed e.0 (keys_of es) distinct.0) ∙ ap (λ q. list_any (eqb q) (keys_of es)) (sym same) ∙ listed k es v is)
+              apart same = let c : Some v ≡ None = sym is ∙ ap (λ q. told q es) same ∙ none-above e.0 es ordered.0 in cc
 
-  pub all-remove : (P : ℕ × V → Type 0) (test : ℕ → Bool) (es : List (ℕ × V)) → AllByRecursion P es → AllByRecursion P (remove_entry test es)
-  all-remove P test [] all = tt
-  all-remove P test (e ∷ es) all = by (test e.0) (all-remove P test es all.1)
+  pub find-none : (test : V → Bool) (es : List (ℕ × V)) → AllByRecursion (λ (e : ℕ × V). test e.1 ≡ false) es → find test (values_of es) ≡ None
+  find-none test [] all = refl
+  find-none test (e ∷ es) all = cond-false (test e.1) (Some e.1) (find test (values_of es)) all.0 ∙ find-none test es all.1
+
+  -- by a test that is that of one number
+  pub find-one : (test : V → Bool) (n : ℕ) (es : List (ℕ × V)) → AllByRecursion (λ (e : ℕ × V). test e.1 ≡ is_at (nat_cmp n) e.0) es → find test (values_of es) ≡ told n es
+  find-one test n [] all = refl
+  find-one test n (e ∷ es) all = ap₂ (λ b o. cond b (Some e.1) o) all.0 (find-one test n es all.1)
+
+  -- a look-up by equality of numbers is one by their order
+  pub by-order : (k : ℕ) (es : List (ℕ × V)) → lookup (λ q. k == q) es ≡ told k es
+  by-order k es = ap (λ f. lookup f es) (λ i q. unsigned_ties k q i)
+
+  -- ---- what is left
+
+  pub kept-whole : (test : V → Bool) (es : List (ℕ × V)) → AllByRecursion (λ (e : ℕ × V). test e.1 ≡ false) es → filter (λ v. not (test v)) (values_of es) ≡ values_of es
+  kept-whole test [] all = refl
+  kept-whole test (e ∷ es) all =
+      cond-true (not (test e.1)) (e.1 ∷ filter (λ v. not (test v)) (values_of es)) (filter (λ v. not (test v)) (values_of es)) (ap not all.0)
+      ∙ ap (λ vs. e.1 ∷ vs) (kept-whole test es all.1)
+
+  none-pass : (test : V → Bool) (n : ℕ) (es : List (ℕ × V)) → AllByRecursion (λ k. nat_cmp n k ≡ Less) (keys_of es) → AllByRecursion (λ (e : ℕ × V). test e.1 ≡ is_at (nat_cmp n) e.0) es → AllByRecursion (λ (e : ℕ × V). test e.1 ≡ false) es
+  none-pass test n [] above all = tt
+  none-pass test n (e ∷ es) above all = (all.0 ∙ ap is_eq above.0, none-pass test n es above.1 all.1)
+
+  -- values without those that pass a test, where the test is that of one number
+  pub removed : (test : V → Bool) (n : ℕ) (es : List (ℕ × V)) → IsStrictlySortedBy nat_cmp (keys_of es) → AllByRecursion (λ (e : ℕ × V). test e.1 ≡ is_at (nat_cmp n) e.0) es
+      → values_of (remove_entry (is_at (nat_cmp n)) es) ≡ filter (λ v. not (test v)) (values_of es)
+  unfolding IsStrictlySortedBy
+  removed test n [] ordered all = refl
+  removed test n (e ∷ es) ordered all = by (is_at (nat_cmp n) e.0) refl (removed test n es ordered.1 all.1)
     where
-      by : (b : Bool) → AllByRecursion P (remove_entry test es) → AllByRecursion P (cond b es (e ∷ remove_entry test es))
-      by true rest = all.1
-      by false rest = (all.0, rest)
+      by : (b : Bool) → is_at (nat_cmp n) e.0 ≡ b → values_of (remove_entry (is_at (nat_cmp n)) es) ≡ filter (λ v. not (test v)) (values_of es)
+          → values_of (cond b es (e ∷ remove_entry (is_at (nat_cmp n)) es)) ≡ cond (not (test e.1)) (e.1 ∷ filter (λ v. not (test v)) (values_of es)) (filter (λ v. not (test v)) (values_of es))
+      by true is rest =
+          sym (kept-whole test es (none-pass test n es (subst (λ q. AllByRecursion (λ k. nat_cmp q k ≡ Less) (keys_of es)) (sym (same-at n e.0 is)) ordered.0) all.1))
+          ∙ sym (cond-false (not (test e.1)) (e.1 ∷ filter (λ v. not (test v)) (values_of es)) (filter (λ v. not (test v)) (values_of es)) (ap not (all.0 ∙ is)))
+      by false is rest = ap (λ vs. e.1 ∷ vs) rest ∙ sym (cond-true (not (test e.1)) (e.1 ∷ filter (λ v. not (test v)) (values_of es)) (filter (λ v. not (test v)) (values_of es)) (ap not (all.0 ∙ is)))
 
-  pub all-append : (P : ℕ × V → Type 0) (es : List (ℕ × V)) (e : ℕ × V) → AllByRecursion P es → P e → AllByRecursion P (es ++ e ∷ [])
-  all-append P [] e all here = (here, tt)
-  all-append P (x ∷ es) e all here = (all.0, all-append P es e all.1 here)
+  -- ---- behind all others
 
-  kept-whole : (test : V → Bool) (n : ℕ) (es : List (ℕ × V)) → list_any (eqb n) (keys_of es) ≡ false → AllByRecursion (λ (e : ℕ × V). test e.1 ≡ (n == e.0)) es → filter (λ v. not (test v)) (values_of es) ≡ values_of es
-  kept-whole test n [] none all = refl
-  kept-whole test n (x ∷ es) none all =
-      let parts = or_parts (n == x.0) (list_any (eqb n) (keys_of es)) none in
-      cond-true (not (test x.1)) (x.1 ∷ filter (λ v. not (test v)) (values_of es)) (filter (λ v. not (test v)) (values_of es)) (ap not (all.0 ∙ parts.0))
-      ∙ ap (λ vs. x.1 ∷ vs) (kept-whole test n es parts.1 all.1)
+  pub none-below : (n : ℕ) (es : List (ℕ × V)) → AllByRecursion (λ k. k < n) (keys_of es) → told n es ≡ None
+  none-below n [] below = refl
+  none-below n (e ∷ es) below = cond-false (is_at (nat_cmp n) e.0) (Some e.1) (told n es) (ap is_eq (is_greater n e.0 below.0)) ∙ none-below n es below.1
 
-  -- a new number goes last
-  pub insert-new : (k : ℕ) (v : V) (es : List (ℕ × V)) → at k es ≡ None → insert_entry eqb es k v ≡ es ++ (k, v) ∷ []
-  insert-new k v [] none = refl
-  insert-new k v (e ∷ es) none = by (k == e.0) refl none (λ h. insert-new k v es h)
-    where
-      by : (b : Bool) → (k == e.0) ≡ b → cond b (Some e.1) (at k es) ≡ None → (at k es ≡ None → insert_entry eqb es k v ≡ es ++ (k, v) ∷ []) → cond b ((e.0, v) ∷ es) (e ∷ insert_entry eqb es k v) ≡ e ∷ (es ++ (k, v) ∷ [])
-      by true is h more = cc
-      by false is h more = ap (λ xs. e ∷ xs) (more h)
+  -- a number above all others goes last
+  pub insert-last : (n : ℕ) (v : V) (es : List (ℕ × V)) → AllByRecursion (λ k. k < n) (keys_of es) → insert_entry nat_cmp es n v ≡ es ++ (n, v) ∷ []
+  insert-last n v [] below = refl
+  insert-last n v (e ∷ es) below =
+      ap (λ r. match_ordering r ((n, v) ∷ e ∷ es) ((e.0, v) ∷ es) (e ∷ insert_entry nat_cmp es n v)) (is_greater n e.0 below.0)
+      ∙ ap (λ xs. e ∷ xs) (insert-last n v es below.1)
 
   pub values-push : (es : List (ℕ × V)) (k : ℕ) (v : V) → values_of (es ++ (k, v) ∷ []) ≡ values_of es ++ v ∷ []
   values-push [] k v = refl
   values-push (e ∷ es) k v = ap (λ vs. e.1 ∷ vs) (values-push es k v)
-
-  -- a look-up by an order of numbers is one by their equality
-  pub by-order : (k : ℕ) (es : List (ℕ × V)) → at k es ≡ lookup (is_at (nat_cmp k)) es
-  by-order k es = ap (λ f. lookup f es) (λ i q. unsigned_ties k q i)
-
-  -- values without those that pass a test, where the test is that of one number
-  pub removed : (test : V → Bool) (n : ℕ) (es : List (ℕ × V)) → IsDistinct eqb (keys_of es) → AllByRecursion (λ (e : ℕ × V). test e.1 ≡ (n == e.0)) es
-      → values_of (remove_entry (λ q. n == q) es) ≡ filter (λ v. not (test v)) (values_of es)
-  unfolding IsDistinct
-  removed test n [] distinct all = refl
-  removed test n (e ∷ es) distinct all = by (n == e.0) refl (removed test n es distinct.1 all.1)
-    where
-      by : (b : Bool) → (n == e.0) ≡ b → values_of (remove_entry (λ q. n == q) es) ≡ filter (λ v. not (test v)) (values_of es)
-          → values_of (cond b es (e ∷ remove_entry (λ q. n == q) es)) ≡ cond (not (test e.1)) (e.1 ∷ filter (λ v. not (test v)) (values_of es)) (filter (λ v. not (test v)) (values_of es))
-      by true is rest =
-          sym (kept-whole test n es (ap (λ q. list_any (eqb q) (keys_of es)) (eqb-true n e.0 is) ∙ none-listed e.0 (keys_of es) distinct.0) all.1)
-          ∙ sym (cond-false (not (test e.1)) (e.1 ∷ filter (λ v. not (test v)) (values_of es)) (filter (λ v. not (test v)) (values_of es)) (ap not (all.0 ∙ is)))
-      by false is rest = ap (λ vs. e.1 ∷ vs) rest ∙ sym (cond-true (not (test e.1)) (e.1 ∷ filter (λ v. not (test v)) (values_of es)) (filter (λ v. not (test v)) (values_of es)) (ap not (all.0 ∙ is)))
 
   -- what is put in last stays last where another number is taken out
   pub remove-append : (test : ℕ → Bool) (es : List (ℕ × V)) (e : ℕ × V) → test e.0 ≡ false → remove_entry test (es ++ e ∷ []) ≡ remove_entry test es ++ e ∷ []
@@ -99,13 +124,11 @@ module _ {V : Type 0} where
       by false more = ap (λ xs. x ∷ xs) more
 
   -- and is taken out again
-  pub remove-pushed : (k : ℕ) (v : V) (es : List (ℕ × V)) → at k es ≡ None → remove_entry (λ q. k == q) (es ++ (k, v) ∷ []) ≡ es
-  remove-pushed k v [] none = ap (λ b. cond b [] ((k, v) ∷ [])) (eq-eqb k k refl)
-  remove-pushed k v (e ∷ es) none = by (k == e.0) none (remove-pushed k v es)
-    where
-      by : (b : Bool) → cond b (Some e.1) (at k es) ≡ None → (at k es ≡ None → remove_entry (λ q. k == q) (es ++ (k, v) ∷ []) ≡ es) → cond b (es ++ (k, v) ∷ []) (e ∷ remove_entry (λ q. k == q) (es ++ (k, v) ∷ [])) ≡ e ∷ es
-      by true h more = cc
-      by false h more = ap (λ xs. e ∷ xs) (more h)
+  pub remove-pushed : (n : ℕ) (v : V) (es : List (ℕ × V)) → AllByRecursion (λ k. k < n) (keys_of es) → remove_entry (is_at (nat_cmp n)) (es ++ (n, v) ∷ []) ≡ es
+  remove-pushed n v [] below = ap (λ b. cond b [] ((n, v) ∷ [])) (at-itself n)
+  remove-pushed n v (e ∷ es) below =
+      cond-false (is_at (nat_cmp n) e.0) (es ++ (n, v) ∷ []) (e ∷ remove_entry (is_at (nat_cmp n)) (es ++ (n, v) ∷ [])) (ap is_eq (is_greater n e.0 below.0))
+      ∙ ap (λ xs. e ∷ xs) (remove-pushed n v es below.1)
 
 pub map-none : {X Y : Type 0} (f : X → Y) (o : Option X) → option_map f o ≡ None → o ≡ None
 map-none f None e = refl
