@@ -202,15 +202,15 @@ mac_in word = mac_pieces_in (slice_split (λ c. c == colon) word)
 
 -- ---- names
 
-abbrev pub IsIfName : IfName → Type 0
-IsIfName name = is_ifname name ≡ true
-
 pub unit_parts_in : (unit : List ℕ) (side : ℕ) → IfSome (unit_side_parts unit side) (λ u. is_unit u.0 ≡ true)
 unfolding unit_side_parts
 unit_parts_in unit side =
     some_then (λ s. Unit {0}) (λ (u : ℕ × Side). is_unit u.0 ≡ true) (side_of side) _ (some_at (λ s. Unit {0}) (side_of side) (λ s e. tt))
     (λ s h. some_then (λ n. n ≤ 4294967295) (λ (u : ℕ × Side). is_unit u.0 ≡ true) (number_up_to 4294967295 unit) _ (up_to 4294967295 unit)
     (λ n i. lt-ltb n (2 ^ 32) (omega (arith, i))))
+
+abbrev pub IsIfName : IfName → Type 0
+IsIfName name = is_ifname name ≡ true
 
 epair_in : (word : List ℕ) → IfSome (epair_of word) IsIfName
 unfolding epair_of unit_side_of

@@ -11,21 +11,18 @@ use Rattle.vn_cells.specs.texts.Programs.{command_text}
 use Rattle.vn_shell.specs.Words.{words_of, of_two}
 use Rattle.vn_shell.specs.Commands.{command_of}
 use Rattle.vn_shell.proofs.Bounds.{is_named}
-use Rattle.vn_shell.proofs.SpacedWords.{is_between, spaced, words_spaced}
+use Rattle.vn_shell.proofs.SpacedWords.{IsSpaced, is_between, spaced, words_spaced}
 
 -- what is written reads as the command, by its words
 pub record ReadsBack (c : Command) : Type 0 where
-  pub word : List ℕ
-  pub words : List (List ℕ)
-  pub spelt : command_text c ≡ spaced (word ∷ words)
-  pub between : list_all is_between (word ∷ words) ≡ true
-  pub meant : command_of (word ∷ words) ≡ Some c
+  pub text : IsSpaced (command_text c)
+  pub meant : command_of (text.word ∷ text.words) ≡ Some c
 
 pub by_words : (c : Command) (word : List ℕ) (words : List (List ℕ)) → command_text c ≡ spaced (word ∷ words) → list_all is_between (word ∷ words) ≡ true → command_of (word ∷ words) ≡ Some c → ReadsBack c
-by_words c word words text between read = record { word = word; words = words; spelt = text; between = between; meant = read }
+by_words c word words text between read = record { text = record { word = word; words = words; spelt = text; between = between }; meant = read }
 
 pub words_back : (c : Command) → ReadsBack c → command_of (words_of (command_text c)) ≡ Some c
-words_back c b = ap command_of (ap words_of b.spelt ∙ words_spaced b.word b.words b.between) ∙ b.meant
+words_back c b = ap command_of (words_spaced (command_text c) b.text) ∙ b.meant
 
 pub both : (a b : Bool) → a ≡ true → b ≡ true → (a && (b && true)) ≡ true
 both a b h g = and_from a (b && true) h (and_from b true g refl)

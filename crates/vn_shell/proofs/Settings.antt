@@ -24,21 +24,17 @@ command_after settings (word ∷ words) = with_word settings word >>= λ more. c
 
 -- ---- no word is two settings
 
-nameless_vnet : name_of (codes "vnet") ≡ None
-unfolding name_of
-nameless_vnet = refl
+-- a word that is neither `name=P` nor `children.max=N`
+abbrev HasNoValue : List ℕ → Type 0
+HasNoValue word = (name_of word ≡ None) × (limit_of word ≡ None)
 
-nameless_persist : name_of (codes "persist") ≡ None
-unfolding name_of
-nameless_persist = refl
+valueless_vnet : HasNoValue (codes "vnet")
+unfolding name_of limit_of
+valueless_vnet = (refl, refl)
 
-unlimited_vnet : limit_of (codes "vnet") ≡ None
-unfolding limit_of
-unlimited_vnet = refl
-
-unlimited_persist : limit_of (codes "persist") ≡ None
-unfolding limit_of
-unlimited_persist = refl
+valueless_persist : HasNoValue (codes "persist")
+unfolding name_of limit_of
+valueless_persist = (refl, refl)
 
 -- no word begins in both ways
 apart : (word : List ℕ) → take 5 word ≡ codes "name=" → take 13 word ≡ codes "children.max=" → ⊥
@@ -67,8 +63,8 @@ pub record Alone (vnet persist : Bool) (name : Option Path) (limit : Option ℕ)
 
 pub alone : (word : List ℕ) → Alone (bytes_eq word (codes "vnet")) (bytes_eq word (codes "persist")) (name_of word) (limit_of word)
 alone word = record {
-  vnet_alone = λ e. (ap (λ w. bytes_eq w (codes "persist")) (same (codes "vnet") e), ap name_of (same (codes "vnet") e) ∙ nameless_vnet, ap limit_of (same (codes "vnet") e) ∙ unlimited_vnet);
-  persist_alone = λ e. (ap name_of (same (codes "persist") e) ∙ nameless_persist, ap limit_of (same (codes "persist") e) ∙ unlimited_persist);
+  vnet_alone = λ e. (ap (λ w. bytes_eq w (codes "persist")) (same (codes "vnet") e), ap name_of (same (codes "vnet") e) ∙ valueless_vnet.0, ap limit_of (same (codes "vnet") e) ∙ valueless_vnet.1);
+  persist_alone = λ e. (ap name_of (same (codes "persist") e) ∙ valueless_persist.0, ap limit_of (same (codes "persist") e) ∙ valueless_persist.1);
   name_alone = unlimited_name word;
 }
   where

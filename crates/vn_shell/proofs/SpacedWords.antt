@@ -75,11 +75,19 @@ none_lost (word ∷ words) h =
     let more = none_lost words at.1 in
     (and_from _ _ (lacks_all is_ascii_graphic space refl word one.0) more.0, rw (one.1, more.1) refl)
 
--- words are found again
-pub words_spaced : (word : List ℕ) (words : List (List ℕ)) → list_all is_between (word ∷ words) ≡ true → words_of (spaced (word ∷ words)) ≡ word ∷ words
+-- a text that is words with a space between each two
+pub record IsSpaced (text : List ℕ) : Type 0 where
+  pub word : List ℕ
+  pub words : List (List ℕ)
+  pub spelt : text ≡ spaced (word ∷ words)
+  pub between : list_all is_between (word ∷ words) ≡ true
+
+-- its words are found again
+pub words_spaced : (text : List ℕ) (s : IsSpaced text) → words_of text ≡ s.word ∷ s.words
 unfolding words_of
-words_spaced word words h =
-    let kept = none_lost (word ∷ words) h in ap (filter is_filled) (split-join space word words kept.0) ∙ kept.1
+words_spaced text s =
+    let kept = none_lost (s.word ∷ s.words) s.between in
+    ap words_of s.spelt ∙ ap (filter is_filled) (split-join space s.word s.words kept.0) ∙ kept.1
 
 -- a word that a reader reads, who does not read an empty one
 pub filled_read : {X : Type 0} (read : List ℕ → Option X) (x : X) (word : List ℕ) → read [] ≡ None → read word ≡ Some x → is_filled word ≡ true
@@ -182,27 +190,29 @@ mac_graphic mac h = all_joined is_ascii_graphic colon refl (map hex_octet mac.0)
 
 -- ---- names
 
+-- a word that begins with a letter
+letter_word : (further : ℕ → Bool) (most : ℕ) → ((c : ℕ) → further c ≡ true → is_ascii_graphic c ≡ true) → (c : ℕ) (cs : List ℕ) → (is_ascii_lowercase c && list_all further cs && nat_le (length cs) most) ≡ true
+    → is_between (c ∷ cs) ≡ true
+letter_word further most shows c cs h =
+    let at = and_parts (is_ascii_lowercase c) (list_all further cs) (and_parts (is_ascii_lowercase c && list_all further cs) (nat_le (length cs) most) h).0 in
+    and_from _ _ (and_from _ _ (letter_shows c at.0) (all_weaker further is_ascii_graphic shows cs at.1)) refl
+
 pub name_word : (name : List ℕ) → is_name name ≡ true → is_between name ≡ true
 unfolding is_name
 name_word [] h = absurd (true≢false (sym h))
-name_word (c ∷ cs) h =
-    let at = and_parts (is_ascii_lowercase c) (list_all is_name_octet cs) (and_parts (is_ascii_lowercase c && list_all is_name_octet cs) (nat_le (length cs) 63) h).0 in
-    and_from _ _ (and_from _ _ (letter_shows c at.0) (all_weaker is_name_octet is_ascii_graphic name_shows cs at.1)) refl
+name_word (c ∷ cs) h = letter_word is_name_octet 63 name_shows c cs h
 
 pub sock_word : (name : List ℕ) → is_sock_name name ≡ true → is_between name ≡ true
 unfolding is_sock_name
 sock_word [] h = absurd (true≢false (sym h))
-sock_word (c ∷ cs) h =
-    let at = and_parts (is_ascii_lowercase c) (list_all is_letter_or_digit cs) (and_parts (is_ascii_lowercase c && list_all is_letter_or_digit cs) (nat_le (length cs) 15) h).0 in
-    and_from _ _ (and_from _ _ (letter_shows c at.0) (all_weaker is_letter_or_digit is_ascii_graphic further_shows cs at.1)) refl
+sock_word (c ∷ cs) h = letter_word is_letter_or_digit 15 further_shows c cs h
 
 label_graphic : (l : List ℕ) → is_label l ≡ true → is_graphic l ≡ true
 unfolding is_label
 label_graphic [] h = refl
 label_graphic (c ∷ cs) h =
     let word = (and_parts (is_ascii_lowercase c && list_all is_label_octet cs && nat_le (length cs) 15) (not (bytes_eq (c ∷ cs) (codes "host"))) h).0 in
-    let at = and_parts (is_ascii_lowercase c) (list_all is_label_octet cs) (and_parts (is_ascii_lowercase c && list_all is_label_octet cs) (nat_le (length cs) 15) word).0 in
-    and_from _ _ (letter_shows c at.0) (all_weaker is_label_octet is_ascii_graphic label_shows cs at.1)
+    (and_parts (is_graphic (c ∷ cs)) true (letter_word is_label_octet 15 label_shows c cs word)).0
 
 pub path_graphic : (p : Path) → is_path p ≡ true → is_graphic (path_text p) ≡ true
 unfolding path_text joined

@@ -41,7 +41,7 @@ use Rattle.vn_shell.proofs.Histories.{events-cons}
 use Rattle.vn_shell.proofs.Lengths.{command_at, end_at, labels_few, len4, len5, number_at, path_at}
 use Rattle.vn_shell.proofs.Lists.{all_both, all_joined, all_weaker}
 use Rattle.vn_shell.proofs.ReadBack.{number_back, number_word, path_word, such_back}
-use Rattle.vn_shell.proofs.SpacedWords.{is_between, is_graphic, spaced, words_spaced, lacks_all, path_graphic, end_graphic, filled_front}
+use Rattle.vn_shell.proofs.SpacedWords.{IsSpaced, is_between, is_graphic, spaced, words_spaced, lacks_all, path_graphic, end_graphic, filled_front}
 use Rattle.vn_shell.proofs.Written.{command_back}
 
 -- ---- lines
@@ -67,11 +67,8 @@ spaced_printable words h = all_joined is_printable space refl words (all_weaker 
 
 -- what is written reads as the event, by its words
 record IsTold (e : Event) : Type 0 where
-  word : List ℕ
-  words : List (List ℕ)
-  spelt : event_text e ≡ spaced (word ∷ words)
-  between : list_all is_between (word ∷ words) ≡ true
-  meant : told_by (word ∷ words) ≡ Some (Happened e)
+  text : IsSpaced (event_text e)
+  meant : told_by (text.word ∷ text.words) ≡ Some (Happened e)
   short : length (event_text e) ≤ 4352
 
 wait_back : (n : ℕ) → is_wait n ≡ true → wait_of (decimal n) ≡ Some n
@@ -135,97 +132,83 @@ lane_at : (verb : List ℕ) (lane : ℕ) (path : Path) (rest : List ℕ) (n : �
 lane_at verb lane path rest n h g few =
     omega (arith, len5 verb (decimal lane) (codes " ") (path_text path) rest, number_at lane (omega (arith, lane_small lane h)), path_at path g, few)
 
+-- and nothing behind it
+step_at : (verb : List ℕ) (lane : ℕ) (path : Path) → is_lane lane ≡ true → is_path path ≡ true → length (verb ++ decimal lane ++ codes " " ++ path_text path) ≤ length verb + 157
+step_at verb lane path h g =
+    omega (arith, len4 verb (decimal lane) (codes " ") (path_text path), number_at lane (omega (arith, lane_small lane h)), path_at path g)
+
+-- an event of one word
+word_told : (e : Event) (verb word : List ℕ) → event_text e ≡ spaced (verb ∷ word ∷ []) → is_between verb ≡ true → is_between word ≡ true → told_by (verb ∷ word ∷ []) ≡ Some (Happened e)
+    → length (event_text e) ≤ 4352 → IsTold e
+word_told e verb word spelt shown filled meant short = record {
+  text = record { word = verb; words = word ∷ []; spelt = spelt; between = and_from _ _ shown (and_from _ _ filled refl) };
+  meant = meant;
+  short = short;
+}
+
+-- an event of a lane at a path, and the words behind it
+lane_told : (e : Event) (verb : List ℕ) (lane : ℕ) (path : Path) (words : List (List ℕ)) → is_lane lane ≡ true → is_path path ≡ true
+    → event_text e ≡ spaced (verb ∷ decimal lane ∷ path_text path ∷ words) → is_between verb ≡ true → list_all is_between words ≡ true
+    → told_by (verb ∷ decimal lane ∷ path_text path ∷ words) ≡ option_map Happened (lane_of (decimal lane) >>= λ n. path_of (path_text path) >>= λ q. done_of verb n q words)
+    → done_of verb lane path words ≡ Some e → length (event_text e) ≤ 4352 → IsTold e
+lane_told e verb lane path words h g spelt shown filled told done short = record {
+  text = record { word = verb; words = decimal lane ∷ path_text path ∷ words; spelt = spelt; between = and_from _ _ shown (and_from _ _ (lane_word lane h) (and_from _ _ (path_word path g) filled)) };
+  meant =
+      told ∙ ap₂ (λ o p. option_map Happened (o >>= λ n. p >>= λ q. done_of verb n q words)) (lane_back lane h) (path_of-path_text path g) ∙ ap (option_map Happened) done;
+  short = short;
+}
+
 cmd_told : (lane : ℕ) (path : Path) (c : Command) → is_lane lane ≡ true → is_path path ≡ true → is_valid_command path c ≡ true → IsTold (event.Cmd lane path c)
 unfolding event_text told_by event_of happening_of lane_event_of done_of
 cmd_told lane path c h g v =
-    let b = command_back path c v in record {
-      word = codes "cmd";
-      words = decimal lane ∷ path_text path ∷ b.word ∷ b.words;
-      spelt = ap (λ t. (codes "cmd " ++ decimal lane ++ codes " " ++ path_text path) ++ space ∷ t) b.spelt ∙ simp append_assoc;
-      between = and_from _ _ (lane_word lane h) (and_from _ _ (path_word path g) b.between);
-      meant =
-          ap₂ (λ o p. option_map Happened (o >>= λ n. p >>= λ q. done_of (codes "cmd") n q (b.word ∷ b.words))) (lane_back lane h) (path_of-path_text path g)
-          ∙ ap (λ o. option_map Happened (option_map (event.Cmd lane path) (o >>= such_that (has_room path)))) b.meant
-          ∙ ap (λ o. option_map Happened (option_map (event.Cmd lane path) o)) (such_back (has_room path) c (room_for path c g v));
-      short = omega (arith, lane_at (codes "cmd ") lane path (space ∷ command_text c) 4191 h g (omega (arith, command_at path c v)));
-    }
+    let b = command_back path c v in
+    lane_told (event.Cmd lane path c) (codes "cmd") lane path (b.text.word ∷ b.text.words) h g
+    (ap (λ t. (codes "cmd " ++ decimal lane ++ codes " " ++ path_text path) ++ space ∷ t) b.text.spelt ∙ simp append_assoc)
+    refl b.text.between refl
+    (ap (λ o. option_map (event.Cmd lane path) (o >>= such_that (has_room path))) b.meant ∙ ap (option_map (event.Cmd lane path)) (such_back (has_room path) c (room_for path c g v)))
+    (omega (arith, lane_at (codes "cmd ") lane path (space ∷ command_text c) 4191 h g (omega (arith, command_at path c v))))
 
 told : (e : Event) → is_valid_event e ≡ true → IsTold e
 unfolding is_valid_event event_text told_by event_of happening_of lane_event_of done_of
-told (event.Tick n) h = record {
-  word = codes "tick";
-  words = decimal n ∷ [];
-  spelt = refl;
-  between = and_from _ _ (number_word n (omega (arith, leb-true n 86400000 (and_parts (nat_le 1 n) (nat_le n 86400000) h).1))) refl;
-  meant = ap (λ o. option_map Happened (option_map event.Tick o)) (wait_back n h);
-  short = omega (arith, number_at n (omega (arith, leb-true n 86400000 (and_parts (nat_le 1 n) (nat_le n 86400000) h).1)));
-}
+told (event.Tick n) h =
+    let few : n ≤ 86400000 = leb-true n 86400000 (and_parts (nat_le 1 n) (nat_le n 86400000) h).1 in
+    word_told (event.Tick n) (codes "tick") (decimal n) refl refl (number_word n (omega (arith, few)))
+    (ap (λ o. option_map Happened (option_map event.Tick o)) (wait_back n h)) (omega (arith, number_at n (omega (arith, few))))
 told (event.Cmd lane path c) h =
     let at = and_parts (is_lane lane && is_path path) (is_valid_command path c) h in
     let one = and_parts (is_lane lane) (is_path path) at.0 in
     cmd_told lane path c one.0 one.1 at.1
-told (event.Deliver half) h = record {
-  word = codes "deliver";
-  words = half_text half ∷ [];
-  spelt = refl;
-  between = and_from _ _ (half_word half h) refl;
-  meant = ap (λ o. option_map Happened (option_map event.Deliver o)) (half_back half h);
-  short = omega (arith, half_at half h);
-}
-told (event.LoopDeliver path) h = record {
-  word = codes "loop";
-  words = path_text path ∷ [];
-  spelt = refl;
-  between = and_from _ _ (path_word path h) refl;
-  meant = ap (λ o. option_map Happened (option_map event.LoopDeliver o)) (path_of-path_text path h);
-  short = omega (arith, path_at path h);
-}
-told (event.Fire path) h = record {
-  word = codes "fire";
-  words = path_text path ∷ [];
-  spelt = refl;
-  between = and_from _ _ (path_word path h) refl;
-  meant = ap (λ o. option_map Happened (option_map event.Fire o)) (path_of-path_text path h);
-  short = omega (arith, path_at path h);
-}
+told (event.Deliver half) h =
+    word_told (event.Deliver half) (codes "deliver") (half_text half) refl refl (half_word half h)
+    (ap (λ o. option_map Happened (option_map event.Deliver o)) (half_back half h)) (omega (arith, half_at half h))
+told (event.LoopDeliver path) h =
+    word_told (event.LoopDeliver path) (codes "loop") (path_text path) refl refl (path_word path h)
+    (ap (λ o. option_map Happened (option_map event.LoopDeliver o)) (path_of-path_text path h)) (omega (arith, path_at path h))
+told (event.Fire path) h =
+    word_told (event.Fire path) (codes "fire") (path_text path) refl refl (path_word path h)
+    (ap (λ o. option_map Happened (option_map event.Fire o)) (path_of-path_text path h)) (omega (arith, path_at path h))
 told (event.Open lane path table) h =
-    let at = and_parts (is_lane lane) (is_path path) h in record {
-      word = codes "open";
-      words = decimal lane ∷ path_text path ∷ table_text table ∷ [];
-      spelt = simp append_assoc;
-      between = and_from _ _ (lane_word lane at.0) (and_from _ _ (path_word path at.1) (and_from _ _ (table_word table).0 refl));
-      meant =
-          ap₂ (λ o p. option_map Happened (o >>= λ n. p >>= λ q. done_of (codes "open") n q (table_text table ∷ []))) (lane_back lane at.0) (path_of-path_text path at.1)
-          ∙ ap (λ o. option_map Happened (option_map (event.Open lane path) o)) (table_back table);
-      short = omega (arith, lane_at (codes "open ") lane path (space ∷ table_text table) 6 at.0 at.1 (omega (arith, (table_word table).1)));
-    }
+    let at = and_parts (is_lane lane) (is_path path) h in
+    lane_told (event.Open lane path table) (codes "open") lane path (table_text table ∷ []) at.0 at.1 (simp append_assoc) refl (and_from _ _ (table_word table).0 refl) refl
+    (ap (option_map (event.Open lane path)) (table_back table))
+    (omega (arith, lane_at (codes "open ") lane path (space ∷ table_text table) 6 at.0 at.1 (omega (arith, (table_word table).1))))
 told (event.Next lane path) h =
-    let at = and_parts (is_lane lane) (is_path path) h in record {
-      word = codes "next";
-      words = decimal lane ∷ path_text path ∷ [];
-      spelt = simp append_assoc;
-      between = and_from _ _ (lane_word lane at.0) (and_from _ _ (path_word path at.1) refl);
-      meant = ap₂ (λ o p. option_map Happened (o >>= λ n. p >>= λ q. done_of (codes "next") n q [])) (lane_back lane at.0) (path_of-path_text path at.1);
-      short = omega (arith, len4 (codes "next ") (decimal lane) (codes " ") (path_text path), number_at lane (omega (arith, lane_small lane at.0)), path_at path at.1);
-    }
+    let at = and_parts (is_lane lane) (is_path path) h in
+    lane_told (event.Next lane path) (codes "next") lane path [] at.0 at.1 (simp append_assoc) refl refl refl refl
+    (omega (arith, step_at (codes "next ") lane path at.0 at.1))
 told (event.Close lane path) h =
-    let at = and_parts (is_lane lane) (is_path path) h in record {
-      word = codes "close";
-      words = decimal lane ∷ path_text path ∷ [];
-      spelt = simp append_assoc;
-      between = and_from _ _ (lane_word lane at.0) (and_from _ _ (path_word path at.1) refl);
-      meant = ap₂ (λ o p. option_map Happened (o >>= λ n. p >>= λ q. done_of (codes "close") n q [])) (lane_back lane at.0) (path_of-path_text path at.1);
-      short = omega (arith, len4 (codes "close ") (decimal lane) (codes " ") (path_text path), number_at lane (omega (arith, lane_small lane at.0)), path_at path at.1);
-    }
+    let at = and_parts (is_lane lane) (is_path path) h in
+    lane_told (event.Close lane path) (codes "close") lane path [] at.0 at.1 (simp append_assoc) refl refl refl refl
+    (omega (arith, step_at (codes "close ") lane path at.0 at.1))
 
 printable : (e : Event) → IsTold e → list_all is_printable (event_text e) ≡ true
-printable e t = ap (list_all is_printable) t.spelt ∙ spaced_printable (t.word ∷ t.words) t.between
+printable e t = ap (list_all is_printable) t.text.spelt ∙ spaced_printable (t.text.word ∷ t.text.words) t.text.between
 
 told_line : (e : Event) → IsTold e → history_line_of (event_text e) ≡ Some (Happened e)
 unfolding history_line_of is_text
 told_line e t =
     ap₂ (λ a b. cond (a && b) (told_by (words_of (event_text e))) None) (printable e t) (le-leb (length (event_text e)) 4352 t.short)
-    ∙ ap told_by (ap words_of t.spelt ∙ words_spaced t.word t.words t.between) ∙ t.meant
+    ∙ ap told_by (words_spaced (event_text e) t.text) ∙ t.meant
 
 event_lines : (e : Event) (rest : List ℕ) → IsTold e → lines_of (line (event_text e) ++ rest) ≡ event_text e ∷ lines_of rest
 event_lines e rest t = lines_line (event_text e) rest (lacks_all is_printable newline refl (event_text e) (printable e t))

@@ -78,15 +78,15 @@ fn read_events(alloc: Global, text: &[u8]) -> Result<History, HistoryFault>
 {
     let mut history = History::new(alloc);
     let mut number: u64 = 1;
-    let mut rest = text;
-    while let Some((line, more)) = next_line(rest) {
+    let mut left = text;
+    while let Some((line, more)) = next_line(left) {
         number += 1;
         match read_line(alloc, line)? {
             Some(HistoryLine::Happened(event)) => history.push(event)?,
             Some(HistoryLine::Last) => return end(history, number + 1, more),
             None => return Err(HistoryFault::BadHistory(number)),
         }
-        rest = more;
+        left = more;
     }
     Err(HistoryFault::BadHistory(number + 1))
 }
