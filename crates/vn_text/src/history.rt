@@ -17,17 +17,17 @@ pub fn write_history(history: &History, out: &mut Vec<u8>) -> Result<(), NoMemor
     ensures kept { OnErr result (out.new.items ≡ out.old.items) }
 {
     let start = out.len();
-    let written = put_history(history, out);
+    let written = put_history(history.events(), out);
     restore(written, start, out)
 }
 
 #[tactic(auto, using(crate::proofs::Putting::history_put))]
-pub(crate) fn put_history(history: &History, out: &mut Vec<u8>) -> Result<(), NoMemory>
-    ensures put { OnOk result (out.new.items ≡ out.old.items ++ history_text history.now) }
+pub(crate) fn put_history(events: &[Event], out: &mut Vec<u8>) -> Result<(), NoMemory>
+    ensures put { OnOk result (out.new.items ≡ out.old.items ++ history_text events.now) }
     ensures front { StartsWith out.new.items out.old.items }
 {
     put(b"== history 1\n", out)?;
-    put_events(history.events(), out)?;
+    put_events(events, out)?;
     put(b"== end\n", out)
 }
 
@@ -39,22 +39,14 @@ fn put_events(events: &[Event], out: &mut Vec<u8>) -> Result<(), NoMemory>
 {
     for event in events {
         put_event(event, out)?;
+        put(b"\n", out)?;
     }
     Ok(())
 }
 
-/// An event's line.
-fn put_event(event: &Event, out: &mut Vec<u8>) -> Result<(), NoMemory>
-    ensures put { OnOk result (out.new.items ≡ out.old.items ++ line (event_text event.now)) }
-    ensures front { StartsWith out.new.items out.old.items }
-{
-    put_happening(event, out)?;
-    put(b"\n", out)
-}
-
-/// What happened.
+/// What happened, without a line end.
 #[tactic(auto, unfolding(vn_cells::specs::texts::Text::event_text))]
-fn put_happening(event: &Event, out: &mut Vec<u8>) -> Result<(), NoMemory>
+fn put_event(event: &Event, out: &mut Vec<u8>) -> Result<(), NoMemory>
     ensures put { OnOk result (out.new.items ≡ out.old.items ++ event_text event.now) }
     ensures front { StartsWith out.new.items out.old.items }
 {

@@ -26,7 +26,7 @@ fn put_report(report: &Report, out: &mut Vec<u8>) -> Result<(), NoMemory>
     ensures front { StartsWith out.new.items out.old.items }
 {
     put_transcripts(report, None, out)?;
-    put_history(&report.history, out)
+    put_history(report.history.events(), out)
 }
 
 /// Puts a report's transcripts at the end of the output, in their order: all of them, or those of the
