@@ -6,40 +6,37 @@ ghost use Rattle.vn_io.specs.Counts.{RoseByOne, Stayed};
 use crate::failures::failed;
 use crate::outside::{Io, Sink, Source};
 use std::io::{Read, Write};
-use std::marker::Model;
 
-/// A reader of std, as a file, a pipe or a terminal. As a source it tells the octets that std knows
-/// of the reader; of a file, a pipe or a terminal std knows none.
+/// A reader or a writer of std, as a file, a pipe or a terminal, with the count of its failures. It tells the
+/// octets that std knows of it; of a file, a pipe or a terminal std knows none.
 #[derive(Drop)]
-pub struct ReadSource<R: Read> {
-    reader: R,
+pub struct Counted<T> {
+    inner: T,
     faults: u64,
 }
 
-impl<R: Read> Model for ReadSource<R> {
-    ghost use Rattle.vn_io.specs.Adapters.{Adapter};
+/// A reader as a source.
+pub type ReadSource<R> = Counted<R>;
 
-    ghost Value = { Adapter };
+/// A writer as a sink.
+pub type WriteSink<W> = Counted<W>;
 
-    ghost view = { λ s. record { known = R.remaining s.reader; faults = s.faults } };
-}
-
-impl<R: Read> ReadSource<R> {
-    /// A source over a reader.
-    pub fn new(reader: R) -> ReadSource<R>
-        ensures { result ≡ record { known = R.remaining reader; faults = 0 } }
+impl<T> Counted<T> {
+    /// A reader or a writer that has not failed yet.
+    pub fn new(inner: T) -> Counted<T>
+        ensures { result ≡ record { inner = inner; faults = 0 } }
     {
-        ReadSource { reader, faults: 0 }
+        Counted { inner, faults: 0 }
     }
 }
 
-impl<R: Read> Source for ReadSource<R> {
-    ghost left = { λ s. s.known };
+impl<R: Read> Source for Counted<R> {
+    ghost left = { λ s. R.remaining s.inner };
 
     ghost faults = { λ s. s.faults };
 
     fn read(&mut self, into: &mut [u8]) -> Io {
-        match self.reader.read(into) {
+        match self.inner.read(into) {
             Ok(count) => Io::Count(count),
             Err(_) => failed(&mut self.faults),
         }
@@ -50,54 +47,29 @@ impl<R: Read> Source for ReadSource<R> {
     }
 }
 
-/// A writer of std, as a file, a pipe or a terminal. As a sink it tells the octets that std knows
-/// of the writer; of a file, a pipe or a terminal std knows none.
-#[derive(Drop)]
-pub struct WriteSink<W: Write> {
-    writer: W,
-    faults: u64,
-}
-
-impl<W: Write> Model for WriteSink<W> {
-    ghost use Rattle.vn_io.specs.Adapters.{Adapter};
-
-    ghost Value = { Adapter };
-
-    ghost view = { λ s. record { known = W.contents s.writer; faults = s.faults } };
-}
-
-impl<W: Write> WriteSink<W> {
-    /// A sink over a writer.
-    pub fn new(writer: W) -> WriteSink<W>
-        ensures { result ≡ record { known = W.contents writer; faults = 0 } }
-    {
-        WriteSink { writer, faults: 0 }
-    }
-}
-
-impl<W: Write> Sink for WriteSink<W> {
-    ghost written = { λ s. s.known };
+impl<W: Write> Sink for Counted<W> {
+    ghost written = { λ s. W.contents s.inner };
 
     ghost faults = { λ s. s.faults };
 
     fn write(&mut self, from: &[u8]) -> Io
         ensures within { IfCount result (λ n. n ≤ length from.now) }
         ensures octets { IfCount result (λ n.
-            Appends self.old.known self.new.known (take n from.now)) }
+            Appends (W.contents self.old.inner) (W.contents self.new.inner) (take n from.now)) }
         ensures some { IfCount result (λ n. 0 < length from.now → 0 < n) }
         ensures counted { OnCount result (Stayed self.old.faults self.new.faults) }
         // The writer is not called for an empty piece.
         ensures empty { length from.now ≡ 0 → result ≡ Io.Count 0 }
         ensures unused { length from.now ≡ 0 → self.new ≡ self.old }
 
-        ensures none { OnFailed result (Keeps self.old.known self.new.known) }
+        ensures none { OnFailed result (Keeps (W.contents self.old.inner) (W.contents self.new.inner)) }
         ensures cause { OnFailed result (RoseByOne self.old.faults self.new.faults) }
         ensures never_falls { self.old.faults ≤ self.new.faults }
     {
         if from.is_empty() {
             return Io::Count(0);
         }
-        match self.writer.write(from) {
+        match self.inner.write(from) {
             // std may take nothing of a piece, and would then be asked for ever.
             Ok(0) | Err(_) => failed(&mut self.faults),
             Ok(count) => Io::Count(count),
