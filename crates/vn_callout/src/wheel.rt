@@ -1,6 +1,8 @@
-ghost use Rattle.std.specs.Prelude.{◌≡◌, ℕ, ◌≤◌, ◌<◌, ◌^◌, false, [], All, Any, OnOk, OnErr, IfOk, IfSome, IfNone};
+ghost use Rattle.std.specs.Prelude.{◌≡◌, ℕ, ◌≤◌, ◌<◌, ◌^◌, false, List, [], None, All, Any, OnOk, OnErr, IfOk, IfSome, IfNone};
+ghost use Rattle.vn_types.specs.declared.interface.HalfId.{HalfId};
 ghost use Rattle.vn_types.specs.PerStack.{ChangesOnly};
 ghost use Rattle.vn_types.specs.Interfaces.{half_id_eq};
+ghost use Rattle.vn_rules.specs.declared.timer.TimersOf.{TimersOf};
 ghost use Rattle.vn_rules.specs.Timers.{no_timers, after_arm, has_timer, without_timer, times_without, due, after_due, IsFirstDue, lesser, least};
 ghost use Rattle.vn_callout.specs.Stacks.{of};
 
@@ -18,10 +20,6 @@ pub struct Wheel {
 }
 
 impl Model for Wheel {
-    ghost use Rattle.std.specs.Prelude.{List};
-    ghost use Rattle.vn_types.specs.declared.interface.HalfId.{HalfId};
-    ghost use Rattle.vn_rules.specs.declared.timer.TimersOf.{TimersOf};
-
     ghost Value = { List (TimersOf HalfId) };
 
     ghost view = { λ a. a.stacks };
@@ -30,7 +28,8 @@ impl Model for Wheel {
 impl Wheel {
     /// A wheel on which no stack has a timer.
     pub fn new(alloc: Global) -> Result<Wheel, NoMemory>
-        ensures { IfOk result (λ w. (q : ℕ) → of w q ≡ no_timers) }
+        ensures none { IfOk result (λ w. (q : ℕ) → of w q ≡ no_timers) }
+        ensures idle { IfOk result (λ w. least w ≡ None) }
     {
         Ok(Wheel {
             stacks: PerStack::new(alloc),
