@@ -1,7 +1,9 @@
-ghost use Rattle.std.specs.Prelude.{◌≡◌, ℕ, ◌≤◌, [], Some, None, OnOk, OnErr, IfOk, IfSome};
+ghost use Rattle.std.specs.Prelude.{◌≡◌, ℕ, ◌≤◌, List, [], Some, None, OnOk, OnErr, IfOk, IfSome};
+ghost use Rattle.vn_types.specs.declared.interface.HalfId.{HalfId};
 ghost use Rattle.vn_types.specs.PerStack.{ChangesOnly};
 ghost use Rattle.vn_types.specs.Refusals.{IsRefusedBy};
 ghost use Rattle.vn_types.specs.Interfaces.{half_id_eq};
+ghost use Rattle.vn_rules.specs.declared.address.AddrOf.{AddrOf};
 ghost use Rattle.vn_rules.specs.Addresses.{local, add_refusal, after_add, broadcast, address_at, on_interface, remove_answer, after_remove, after_purge, source_for, first};
 ghost use Rattle.vn_inaddr.specs.Stacks.{of};
 
@@ -18,10 +20,6 @@ pub struct Addrs {
 }
 
 impl Model for Addrs {
-    ghost use Rattle.std.specs.Prelude.{List};
-    ghost use Rattle.vn_types.specs.declared.interface.HalfId.{HalfId};
-    ghost use Rattle.vn_rules.specs.declared.address.AddrOf.{AddrOf};
-
     ghost Value = { List (List (AddrOf HalfId)) };
 
     ghost view = { λ a. a.stacks };
