@@ -16,9 +16,10 @@ pub(crate) struct Loopback {
 }
 
 impl Model for Loopback {
-    ghost use Rattle.std.specs.Prelude.{ℕ, List, Option};
+    ghost use Rattle.std.specs.Prelude.{Option};
+    ghost use Rattle.vn_loop.specs.Queues.{Queue as Datagrams};
 
-    ghost Value = { Option (List (List ℕ)) };
+    ghost Value = { Option Datagrams };
 
     ghost view = { λ a. a.queue };
 }

@@ -21,10 +21,10 @@ pub struct Loops {
 }
 
 impl Model for Loops {
-    ghost use Rattle.std.specs.Prelude.{◌≡◌, ℕ, List, Option, count_by};
-    ghost use Rattle.vn_loop.specs.Queues.{is_busy};
+    ghost use Rattle.std.specs.Prelude.{◌≡◌, List, Option, count_by};
+    ghost use Rattle.vn_loop.specs.Queues.{Queue, is_busy};
 
-    ghost Value = { List (Option (List (List ℕ))) };
+    ghost Value = { List (Option Queue) };
 
     ghost view = { λ a. a.stacks };
 
