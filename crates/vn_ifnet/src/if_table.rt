@@ -1,9 +1,9 @@
-ghost use Rattle.std.specs.Prelude.{◌≡◌, ◌≢◌, ℕ, Some, None, OnOk, OnErr, IfOk, length, slice_get};
+ghost use Rattle.std.specs.Prelude.{◌≡◌, ◌≢◌, ℕ, List, Some, None, OnOk, OnErr, IfOk, length, slice_get};
 ghost use Rattle.std.specs.Option.{is_some, option_map};
 ghost use Rattle.vn_types.specs.declared.interface.IfName.{IfName as Spelt};
 ghost use Rattle.vn_types.specs.PerStack.{ChangesOnly};
 ghost use Rattle.vn_ifnet.specs.declared.interfaces.Attached.{Attached as Entry};
-ghost use Rattle.vn_ifnet.specs.Stacks.{is_taken, named, nothing, of, reserved_by, with_last, without};
+ghost use Rattle.vn_ifnet.specs.Stacks.{Held, is_taken, named, nothing, of, reserved_by, with_last, without};
 
 use crate::interfaces::Interfaces;
 use std::alloc::Global;
@@ -18,9 +18,6 @@ pub struct IfTable {
 }
 
 impl Model for IfTable {
-    ghost use Rattle.std.specs.Prelude.{List};
-    ghost use Rattle.vn_ifnet.specs.Stacks.{Held};
-
     ghost Value = { List Held };
 
     ghost view = { λ a. a.stacks };
