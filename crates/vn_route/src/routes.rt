@@ -1,4 +1,4 @@
-ghost use Rattle.std.specs.Prelude.{◌≡◌, ℕ, true, false, [], Some, All, OnOk, OnErr, IfOk, IfSome, IfNone};
+ghost use Rattle.std.specs.Prelude.{◌≡◌, ℕ, true, false, List, [], Some, All, OnOk, OnErr, IfOk, IfSome, IfNone};
 ghost use Rattle.std.specs.Option.{option_map};
 ghost use Rattle.vn_types.specs.Interfaces.{half_id_eq};
 ghost use Rattle.vn_types.specs.PerStack.{ChangesOnly};
@@ -25,10 +25,6 @@ pub struct Routes {
 }
 
 impl Model for Routes {
-    ghost use Rattle.std.specs.Prelude.{List};
-    ghost use Rattle.vn_types.specs.declared.interface.HalfId.{HalfId};
-    ghost use Rattle.vn_rules.specs.Routes.{Routed};
-
     ghost Value = { List (List (Routed HalfId)) };
 
     ghost view = { λ a. a.stacks };
