@@ -56,12 +56,12 @@ map-map-same f g same [] = refl
 map-map-same f g same (x ∷ xs) = ap₂ (λ y ys. y ∷ ys) (same x) (map-map-same f g same xs)
 
 module _ (names : List (List ℕ × ℕ)) (ports : List Bound) (xs : List (SocketOf HalfId)) (kept : IsIndexed names ports (names_of xs) (numbers_of xs)) where
-  -- one is put in place of another of its name and port
-  pub kept-there : (k : ℕ) (s t : SocketOf HalfId) → s ≡ get_or xs k s → t.name ≡ s.name → t.port ≡ s.port → IsIndexed names ports (names_of (set xs k t)) (numbers_of (set xs k t))
-  kept-there k s t at name port =
+  -- one is put in place of another, and is as that one changed, which kept its name and port
+  pub kept-there : (k : ℕ) (s t u : SocketOf HalfId) → s ≡ get_or xs k s → t ≡ u → u.name ≡ s.name → u.port ≡ s.port → IsIndexed names ports (names_of (set xs k t)) (numbers_of (set xs k t))
+  kept-there k s t u at is name port =
       kept-alike names ports (names_of xs) (names_of (set xs k t)) (numbers_of xs) (numbers_of (set xs k t))
-      (map-set_same (λ (u : SocketOf HalfId). u.name) xs k t s (name ∙ ap (λ (u : SocketOf HalfId). u.name) at))
-      (map-set_same (λ (u : SocketOf HalfId). port_number u.port) xs k t s (ap port_number (port ∙ ap (λ (u : SocketOf HalfId). u.port) at))) kept
+      (map-set_same (λ (v : SocketOf HalfId). v.name) xs k t s (ap (λ (v : SocketOf HalfId). v.name) is ∙ name ∙ ap (λ (v : SocketOf HalfId). v.name) at))
+      (map-set_same (λ (v : SocketOf HalfId). port_number v.port) xs k t s (ap port_number (ap (λ (v : SocketOf HalfId). v.port) is ∙ port ∙ ap (λ (v : SocketOf HalfId). v.port) at))) kept
 
   -- each is changed, and keeps name and port
   pub kept-all : (f : SocketOf HalfId → SocketOf HalfId) → ((s : SocketOf HalfId) → ((f s).name ≡ s.name) × ((f s).port ≡ s.port)) → (ys : List (SocketOf HalfId)) → ys ≡ map f xs

@@ -12,13 +12,25 @@ use std::marker::Model;
 use vn_rules::{Gram, Peer};
 use vn_types::{Errno, If, Ip4, NoMemory, SockName};
 
+/// Where a socket is bound, and to whom it is connected.
+#[derive(Drop)]
+struct Binding {
+    ip: Option<Ip4>,
+    port: Option<u16>,
+    peer: Option<Peer>,
+}
+
+const UNBOUND: Binding = Binding {
+    ip: None,
+    port: None,
+    peer: None,
+};
+
 /// An open socket. Only `new` takes memory.
 #[derive(Drop)]
 pub(crate) struct Socket {
     name: SockName,
-    ip: Option<Ip4>,
-    port: Option<u16>,
-    peer: Option<Peer>,
+    binding: Binding,
     ttl: Option<u8>,
     refused: bool,
     queue: Queue,
@@ -32,9 +44,9 @@ impl Model for Socket {
 
     ghost view = { λ a. record {
       name = a.name;
-      ip = a.ip;
-      port = a.port;
-      peer = a.peer;
+      ip = a.binding.ip;
+      port = a.binding.port;
+      peer = a.binding.peer;
       ttl = a.ttl;
       refused = a.refused;
       queue = a.queue;
@@ -49,9 +61,7 @@ impl Socket {
         let queue = Queue::new(alloc)?;
         Ok(Socket {
             name,
-            ip: None,
-            port: None,
-            peer: None,
+            binding: UNBOUND,
             ttl: None,
             refused: false,
             queue,
@@ -67,19 +77,19 @@ impl Socket {
     pub(crate) fn ip(&self) -> Option<Ip4>
         ensures { result ≡ self.now.ip }
     {
-        self.ip
+        self.binding.ip
     }
 
     pub(crate) fn port(&self) -> Option<u16>
         ensures { result ≡ self.now.port }
     {
-        self.port
+        self.binding.port
     }
 
     pub(crate) fn peer(&self) -> Option<Peer>
         ensures { result ≡ self.now.peer }
     {
-        self.peer
+        self.binding.peer
     }
 
     pub(crate) fn ttl(&self) -> Option<u8>
@@ -98,9 +108,11 @@ impl Socket {
     pub(crate) fn settle(&mut self, ip: Option<Ip4>, port: u16, peer: Option<Peer>)
         ensures { self.new ≡ record self.old { ip = ip; port = Some port; peer = peer } }
     {
-        self.ip = ip;
-        self.port = Some(port);
-        self.peer = peer;
+        self.binding = Binding {
+            ip,
+            port: Some(port),
+            peer,
+        };
     }
 
     /// Whether an error is pending.
@@ -157,9 +169,7 @@ impl Socket {
         ensures { self.new ≡ unbound ip self.old }
     {
         if self.has_ip(ip) {
-            self.ip = None;
-            self.port = None;
-            self.peer = None;
+            self.binding = UNBOUND;
         }
     }
 
@@ -176,7 +186,7 @@ impl Socket {
     pub(crate) fn has_sent(&self, src: Ip4, sport: u16, dst: Ip4, dport: u16) -> bool
         ensures { result ≡ has_sent src sport dst dport self.now }
     {
-        let is_to = match self.peer {
+        let is_to = match self.binding.peer {
             Some(peer) => is_peer(dst, dport, peer),
             None => false,
         };
@@ -193,7 +203,7 @@ impl Socket {
     fn hears(&self, src: Ip4, sport: u16) -> bool
         ensures { result ≡ hears src sport self.now }
     {
-        match self.peer {
+        match self.binding.peer {
             Some(peer) => is_peer(src, sport, peer),
             None => true,
         }
@@ -203,13 +213,13 @@ impl Socket {
     pub(crate) fn conflicts(&self, ip: Option<Ip4>, port: u16) -> bool
         ensures { result ≡ conflicts ip port self.now }
     {
-        self.has_port(port) && overlaps(self.ip, ip)
+        self.has_port(port) && overlaps(self.binding.ip, ip)
     }
 
     fn has_port(&self, port: u16) -> bool
         ensures { result ≡ is_port port self.now.port }
     {
-        match self.port {
+        match self.binding.port {
             Some(own) => own == port,
             None => false,
         }
@@ -218,7 +228,7 @@ impl Socket {
     fn has_ip(&self, ip: Ip4) -> bool
         ensures { result ≡ is_ip ip self.now.ip }
     {
-        match self.ip {
+        match self.binding.ip {
             Some(own) => own.0 == ip.0,
             None => false,
         }

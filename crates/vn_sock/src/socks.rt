@@ -1,8 +1,10 @@
-ghost use Rattle.std.specs.Prelude.{◌≡◌, ◌<◌, ◌↔◌, ℕ, [], IfErr, IfOk, IfSome, IsErr, IsTrue, OnErr, OnOk, Some, length, map};
+ghost use Rattle.std.specs.Prelude.{◌≡◌, ◌<◌, ◌↔◌, ℕ, List, [], IfErr, IfOk, IfSome, IsErr, IsTrue, OnErr, OnOk, Some, length, map};
 ghost use Rattle.std.specs.Option.{ForSome};
 ghost use Rattle.vn_types.specs.Interfaces.{half_id_eq};
 ghost use Rattle.vn_types.specs.PerStack.{ChangesOnly};
 ghost use Rattle.vn_types.specs.Refusals.{IsRefusedBy, first_refusal};
+ghost use Rattle.vn_types.specs.declared.interface.HalfId.{HalfId};
+ghost use Rattle.vn_rules.specs.declared.socket.SocketOf.{SocketOf};
 ghost use Rattle.vn_rules.specs.SocketRefusals.{bind_refusals, closed_refusals, connect_refusals, open_refusals, recv_refusals, send_refusals};
 ghost use Rattle.vn_rules.specs.Sockets.{after_bind, after_close, after_connect, after_open, after_recv, after_sent, cleared, first_gram, has_sender, is_full_at, refused_by, socket_for, socket_named, unbound, unheard, with_gram, with_ttl};
 ghost use Rattle.vn_sock.specs.Plans.{IsPlanOf};
@@ -22,10 +24,6 @@ pub struct Socks {
 }
 
 impl Model for Socks {
-    ghost use Rattle.std.specs.Prelude.{List};
-    ghost use Rattle.vn_types.specs.declared.interface.HalfId.{HalfId};
-    ghost use Rattle.vn_rules.specs.declared.socket.SocketOf.{SocketOf};
-
     ghost Value = { List (List (SocketOf HalfId)) };
 
     ghost view = { λ a. a.stacks };

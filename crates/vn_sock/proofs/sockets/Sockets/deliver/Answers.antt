@@ -10,8 +10,7 @@ use Rattle.vn_sock.proofs.sockets.Sockets.deliver.Goals as goal
 pub invariant_of-self : goal.invariant_of-self
 invariant_of-self c =
     let same = queued-same c.args.gram c.index_mut.result.now in
-    kept-there c.self.inside.names c.self.inside.ports c.self.inside.items.items c.self.invariant c.args.place c.index_mut.result.now c.receive.new.self c.index_mut.ensures.value
-    (ap (λ (s : SocketOf HalfId). s.name) c.receive.ensures.queued ∙ same.0) (ap (λ (s : SocketOf HalfId). s.port) c.receive.ensures.queued ∙ same.1)
+    kept-there c.self.inside.names c.self.inside.ports c.self.inside.items.items c.self.invariant c.args.place c.index_mut.result.now c.receive.new.self _ c.index_mut.ensures.value c.receive.ensures.queued same.0 same.1
 
 pub returns-clause-full : goal.returns-clause-full
 returns-clause-full c =

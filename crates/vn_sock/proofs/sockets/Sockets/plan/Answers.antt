@@ -1,14 +1,11 @@
-use Rattle.std.proofs.Common.{false, ap}
-use Rattle.vn_types.specs.declared.interface.HalfId.{HalfId}
-use Rattle.vn_rules.specs.declared.socket.SocketOf.{SocketOf}
+use Rattle.std.proofs.Common.{false, refl}
 use Rattle.vn_sock.proofs.Kept.{changed-there, kept-there}
 use Rattle.vn_sock.proofs.PortFinds.{are-apart}
 use Rattle.vn_sock.proofs.sockets.Sockets.plan.Goals as goal
 
 pub invariant_of-self : goal.invariant_of-self
 invariant_of-self c =
-    kept-there c.self.inside.names c.self.inside.ports c.self.inside.items.items c.self.invariant c.in-Some.place c.index_mut.result.now c.clear_error.new.self c.index_mut.ensures.value
-    (ap (λ (s : SocketOf HalfId). s.name) c.clear_error.ensures) (ap (λ (s : SocketOf HalfId). s.port) c.clear_error.ensures)
+    kept-there c.self.inside.names c.self.inside.ports c.self.inside.items.items c.self.invariant c.in-Some.place c.index_mut.result.now c.clear_error.new.self _ c.index_mut.ensures.value c.clear_error.ensures refl refl
 
 pub returns-clause-reported : goal.returns-clause-reported
 returns-clause-reported c =

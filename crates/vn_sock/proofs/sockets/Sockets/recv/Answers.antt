@@ -1,4 +1,4 @@
-use Rattle.std.proofs.Common.{◌≡◌, false, Some, drop, sym, ap, subst}
+use Rattle.std.proofs.Common.{◌≡◌, false, Some, drop, sym, ap, subst, refl}
 use Rattle.std.specs.Prelude.{Result, Ok, Err, IfOk, OnOk, OnErr, slice_get}
 use Rattle.std.specs.Option.{option_and_then}
 use Rattle.vn_types.specs.declared.interface.HalfId.{HalfId}
@@ -20,7 +20,7 @@ keeps s t (Err e) taken reported = (ap (λ (u : SocketOf HalfId). u.name) report
 pub invariant_of-self : goal.invariant_of-self
 invariant_of-self c =
     let same = keeps c.index_mut.result.now c.recv.new.self c.recv.result c.recv.ensures.taken c.recv.ensures.reported in
-    kept-there c.self.inside.names c.self.inside.ports c.self.inside.items.items c.self.invariant c.in-Some.place c.index_mut.result.now c.recv.new.self c.index_mut.ensures.value same.0 same.1
+    kept-there c.self.inside.names c.self.inside.ports c.self.inside.items.items c.self.invariant c.in-Some.place c.index_mut.result.now c.recv.new.self _ c.index_mut.ensures.value refl same.0 same.1
 
 pub returns-clause-answer : goal.returns-clause-answer
 returns-clause-answer c =

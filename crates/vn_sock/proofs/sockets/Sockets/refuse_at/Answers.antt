@@ -9,8 +9,7 @@ use Rattle.vn_sock.proofs.sockets.Sockets.refuse_at.Goals as goal
 pub invariant_of-self : goal.invariant_of-self
 invariant_of-self c =
     let same = refused-same c.args.ends.src c.args.ends.sport c.args.ends.dst c.args.ends.dport c.index_mut.result.now in
-    kept-there c.self.inside.names c.self.inside.ports c.self.inside.items.items c.self.invariant c.args.place c.index_mut.result.now c.refuse.new.self c.index_mut.ensures.value
-    (ap (λ (s : SocketOf HalfId). s.name) c.refuse.ensures ∙ same.0) (ap (λ (s : SocketOf HalfId). s.port) c.refuse.ensures ∙ same.1)
+    kept-there c.self.inside.names c.self.inside.ports c.self.inside.items.items c.self.invariant c.args.place c.index_mut.result.now c.refuse.new.self _ c.index_mut.ensures.value c.refuse.ensures same.0 same.1
 
 pub returns : goal.returns
 returns c =

@@ -1,7 +1,6 @@
-use Rattle.std.proofs.Common.{[], Some, ap}
+use Rattle.std.proofs.Common.{[], Some, ap, refl}
 use Rattle.vn_types.specs.declared.interface.HalfId.{HalfId}
 use Rattle.vn_types.specs.Refusals.{first_refusal}
-use Rattle.vn_rules.specs.declared.socket.SocketOf.{SocketOf}
 use Rattle.vn_rules.specs.SocketRefusals.{of_open}
 use Rattle.vn_sock.proofs.Kept.{changed-there, found-there, kept-there}
 use Rattle.vn_sock.proofs.PortFinds.{are-apart}
@@ -9,8 +8,7 @@ use Rattle.vn_sock.proofs.sockets.Sockets.set_ttl.Goals as goal
 
 pub invariant_of-self : goal.invariant_of-self
 invariant_of-self c =
-    kept-there c.self.inside.names c.self.inside.ports c.self.inside.items.items c.self.invariant c.in-Some.place c.index_mut.result.now c.set_ttl.new.self c.index_mut.ensures.value
-    (ap (λ (s : SocketOf HalfId). s.name) c.set_ttl.ensures) (ap (λ (s : SocketOf HalfId). s.port) c.set_ttl.ensures)
+    kept-there c.self.inside.names c.self.inside.ports c.self.inside.items.items c.self.invariant c.in-Some.place c.index_mut.result.now c.set_ttl.new.self _ c.index_mut.ensures.value c.set_ttl.ensures refl refl
 
 pub returns-clause-answer : goal.returns-clause-answer
 returns-clause-answer c =
