@@ -1,9 +1,9 @@
-ghost use Rattle.std.specs.Prelude.{◌≡◌, ℕ, true, OnOk, OnErr, IfOk};
+ghost use Rattle.std.specs.Prelude.{◌≡◌, ℕ, true, List, OnOk, OnErr, IfOk};
 ghost use Rattle.vn_types.specs.Interfaces.{half_id_eq};
 ghost use Rattle.vn_types.specs.PerStack.{ChangesOnly};
 ghost use Rattle.vn_rules.specs.Pings.{no_pings, after_ping, is_answered_by, is_quoted_by, is_timed_by, is_from, is_out_by, awaited_by, awaited_for, timed_by, after_first, pings_without, timers_without};
 ghost use Rattle.vn_callout.specs.Stacks.{of as timers_of};
-ghost use Rattle.vn_icmp.specs.Stacks.{of};
+ghost use Rattle.vn_icmp.specs.Stacks.{Held, of};
 ghost use Rattle.vn_icmp.specs.Which.{is_one};
 
 use crate::awaited::Awaited;
@@ -22,11 +22,7 @@ pub struct Pings {
 }
 
 impl Model for Pings {
-    ghost use Rattle.std.specs.Prelude.{List};
-    ghost use Rattle.vn_types.specs.declared.interface.HalfId.{HalfId};
-    ghost use Rattle.vn_rules.specs.declared.ping.PingsOf.{PingsOf};
-
-    ghost Value = { List (PingsOf HalfId) };
+    ghost Value = { List Held };
 
     ghost view = { λ a. a.stacks };
 }
