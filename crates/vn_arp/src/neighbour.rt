@@ -41,14 +41,7 @@ impl Model for Neighbour {
     ghost Value = { KeptOf HalfId };
 
     ghost view = { λ n. record {
-      entry = record {
-        half = n.half;
-        ip = n.ip;
-        state = n.state;
-        mac = n.mac;
-        requests = n.requests;
-        held = n.held;
-      };
+      entry = record { half = n.half; ip = n.ip; state = n.state; mac = n.mac; requests = n.requests; held = n.held };
       arm = n.arm;
     } };
 }

@@ -1,4 +1,4 @@
-ghost use Rattle.std.specs.Prelude.{◌≡◌, ◌<◌, ◌^◌, ◌&&◌, ◌==◌, ℕ, [], not, Some, None, IsSome, IfOk, OnOk, OnErr};
+ghost use Rattle.std.specs.Prelude.{◌≡◌, ◌&&◌, ◌==◌, ℕ, [], not, Some, None, IsSome, IfOk, OnOk, OnErr};
 ghost use Rattle.std.specs.Option.{option_map};
 ghost use Rattle.vn_types.specs.declared.interface.HalfId.{HalfId};
 ghost use Rattle.vn_types.specs.declared.interface.IfOf.TheVariants.{Half};
@@ -8,11 +8,12 @@ ghost use Rattle.vn_types.specs.Refusals.{IsRefusedBy, first_refusal};
 ghost use Rattle.vn_rules.specs.declared.arp.ArpEntryOf.{ArpEntryOf};
 ghost use Rattle.vn_rules.specs.Arp.{entry_of, held_for, hit, is_down, timer_at, without_entries};
 ghost use Rattle.vn_rules.specs.Resolution.{after_arp_delete, after_input, after_static, after_turn, arp_delete_refusals, released, turn_of};
+ghost use Rattle.vn_rules.specs.Timers.{no_timers};
 ghost use Rattle.vn_callout.specs.Stacks.{of as timers_of};
-ghost use Rattle.vn_arp.specs.Kept.{entries_of, KnowsArms, Follows};
+ghost use Rattle.vn_arp.specs.Kept.{entries_of, Follows, KnowsArms, MayArm};
 ghost use Rattle.vn_arp.specs.Answers.{after_resolution, is_request, resolution, turn_as};
 ghost use Rattle.vn_arp.specs.Listing.{nth_entry, row_of};
-ghost use Rattle.vn_arp.specs.Stacks.{of};
+ghost use Rattle.vn_arp.specs.Stacks.{Table, of};
 
 use crate::answers::{Learned, Resolved, Turn};
 use crate::change::Change;
@@ -38,19 +39,16 @@ pub struct ArpTable {
 }
 
 impl Model for ArpTable {
-    ghost use Rattle.std.specs.Prelude.{List};
-    ghost use Rattle.vn_types.specs.declared.interface.HalfId.{HalfId};
-    ghost use Rattle.vn_arp.specs.Kept.{KeptOf};
-
-    ghost Value = { List (List (KeptOf HalfId)) };
+    ghost Value = { Table };
 
     ghost view = { λ a. a.stacks };
 }
 
 impl ArpTable {
-    /// A table in which no stack has an entry.
+    /// A table in which no stack has an entry, for a wheel that is new.
     pub fn new(alloc: Global) -> Result<ArpTable, NoMemory>
-        ensures { IfOk result (λ table. (q : ℕ) → of table q ≡ []) }
+        ensures none { IfOk result (λ table. (q : ℕ) → of table q ≡ []) }
+        ensures knows { IfOk result (λ table. (q : ℕ) → KnowsArms half_id_eq (of table q) no_timers) }
     {
         Ok(ArpTable {
             stacks: PerStack::new(alloc),
@@ -93,11 +91,8 @@ impl ArpTable {
         now: u64,
         wheel: &mut Wheel,
     ) -> Result<Resolved, NoMemory>
-        requires clock { now < 2 ^ 63 }
-        requires armed { (timers_of wheel.old sid.0).armed < 2 ^ 63 }
-        requires knows { KnowsArms half_id_eq (of self.old sid.0) (timers_of wheel.old sid.0) }
-        ensures answer { IfOk result
-            (λ r. r ≡ resolution half_id_eq half ip packet (entries_of (of self.old sid.0))) }
+        requires { MayArm half_id_eq now (of self.old sid.0) (timers_of wheel.old sid.0) }
+        ensures answer { IfOk result (λ r. r ≡ resolution half_id_eq half ip packet (entries_of (of self.old sid.0))) }
         ensures here { OnOk result (Follows (after_resolution half_id_eq now half ip packet)
             (of self.old sid.0) (timers_of wheel.old sid.0) (of self.new sid.0) (timers_of wheel.new sid.0)) }
         ensures no_memory { OnErr result (entries_of (of self.new sid.0) ≡ entries_of (of self.old sid.0)) }
@@ -120,9 +115,7 @@ impl ArpTable {
         now: u64,
         wheel: &mut Wheel,
     ) -> Result<Learned, NoMemory>
-        requires clock { now < 2 ^ 63 }
-        requires armed { (timers_of wheel.old sid.0).armed < 2 ^ 63 }
-        requires knows { KnowsArms half_id_eq (of self.old sid.0) (timers_of wheel.old sid.0) }
+        requires { MayArm half_id_eq now (of self.old sid.0) (timers_of wheel.old sid.0) }
         ensures release { IfOk result
             (λ r. r.release ≡ released half_id_eq half packet.now.spa (entries_of (of self.old sid.0))) }
         ensures reply { IfOk result (λ r. r.reply ≡ (target_is_mine && is_request packet.now)) }
@@ -152,9 +145,7 @@ impl ArpTable {
         now: u64,
         wheel: &mut Wheel,
     ) -> Result<Turn, NoMemory>
-        requires clock { now < 2 ^ 63 }
-        requires armed { (timers_of wheel.old sid.0).armed < 2 ^ 63 }
-        requires knows { KnowsArms half_id_eq (of self.old sid.0) (timers_of wheel.old sid.0) }
+        requires timing { MayArm half_id_eq now (of self.old sid.0) (timers_of wheel.old sid.0) }
         requires there { IsSome (entry_of half_id_eq half ip (entries_of (of self.old sid.0))) }
         requires taken { timer_at half_id_eq half ip (timers_of wheel.old sid.0) ≡ None }
         ensures answer { IfOk result (λ t. Some t ≡ option_map (λ (e : ArpEntryOf HalfId). turn_as (turn_of e))
@@ -181,8 +172,7 @@ impl ArpTable {
         wheel: &mut Wheel,
     ) -> Result<Packets, NoMemory>
         requires { KnowsArms half_id_eq (of self.old sid.0) (timers_of wheel.old sid.0) }
-        ensures release { IfOk result
-            (λ r. r ≡ held_for half_id_eq half ip (entries_of (of self.old sid.0))) }
+        ensures release { IfOk result (λ r. r ≡ held_for half_id_eq half ip (entries_of (of self.old sid.0))) }
         ensures here { OnOk result (Follows (after_static half_id_eq half ip mac)
             (of self.old sid.0) (timers_of wheel.old sid.0) (of self.new sid.0) (timers_of wheel.new sid.0)) }
         ensures no_memory { OnErr result (entries_of (of self.new sid.0) ≡ entries_of (of self.old sid.0)) }
