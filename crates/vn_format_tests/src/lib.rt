@@ -3,14 +3,4 @@
 #![tactic(auto)]
 
 #[cfg(test)]
-mod cksum;
-#[cfg(test)]
-mod icmpfmt;
-#[cfg(test)]
-mod ip4fmt;
-#[cfg(test)]
-mod link;
-#[cfg(test)]
-mod types;
-#[cfg(test)]
-mod udpfmt;
+mod tests;
