@@ -17,7 +17,7 @@ status_code status.NoMemory = 5
 status_code status.TooLong = 6
 
 -- the word for a reason
-abbrev pub reason_text : Reason → List ℕ
+abbrev pub reason_text : (why : Reason) → List ℕ
 reason_text reason.Text = codes "text"
 reason_text reason.Lane = codes "lane"
 reason_text reason.Path = codes "path"
