@@ -2,7 +2,6 @@
 use Rattle.std.proofs.Common.{◌≡◌, ◌≢◌, ℕ, ◌+◌, ◌<◌, ◌≤◌, true, false, not, ◌==◌, ◌&&◌, List, length, Option, Some, None, IfSome, sym, subst, ap, ap₂, ◌∙◌, arith, ⊎_elim}
 use Rattle.std.specs.Prelude.{slice_set}
 use Rattle.std.specs.List.{list_any, sum_by}
-use Rattle.std.specs.BTreeMap.{BTreeMap, get}
 use Rattle.std.proofs.lemmas.Bool.{cases_eq, cases_lt}
 use Rattle.std.proofs.lemmas.List.{get_or-set_same, get_or-set_other, get_or_past}
 use Rattle.std.proofs.lemmas.List.Sums.{sum_by-set}
@@ -12,11 +11,7 @@ use Rattle.vn_epair.specs.declared.pair_row.TheConstants.{UNIT_MAX}
 use Rattle.vn_epair.specs.Halves.{Pair}
 use Rattle.vn_epair.specs.Pairs.{is_awaiting, is_named, of}
 use Rattle.vn_epair.specs.Line.{Halves, is_half}
-use Rattle.vn_epair.specs.Kept.{Name, name_cmp, quiet_halves, is_right, IsKept}
-
--- the numbers by name
-abbrev pub Map : Type 0
-Map = BTreeMap Name ℕ
+use Rattle.vn_epair.specs.Kept.{Name, quiet_halves, is_right, IsKept, told, Names}
 
 -- the half of a pair, with its home and unit
 abbrev pub awaited_of : Pair → HalfId → Awaited
@@ -67,7 +62,7 @@ module _ (pairs pairs' : List (Option Pair)) (n : ℕ) (p p' : Pair) (c : IsChan
   before P all = subst (λ o. IfSome o (λ pair. P pair n)) c.was (all n)
 
   -- the names and the numbers stay, so what is left is of the frames
-  pub kept-changed : (names : Map) (line line' : Halves) → IsKept pairs names line → ((h : HalfId) → list_any (is_half h) line'.listed ≡ is_awaiting pairs' h)
+  pub kept-changed : (names : Names) (line line' : Halves) → IsKept pairs names line → ((h : HalfId) → list_any (is_half h) line'.listed ≡ is_awaiting pairs' h)
       → list_any (λ e. not (is_right pairs e)) line'.listed ≡ false → line'.room + quiet_halves (Some p) ≡ line.room + quiet_halves (Some p') → IsKept pairs' names line'
   kept-changed names line line' kept listed right room = record {
     named = named;
@@ -78,11 +73,11 @@ module _ (pairs pairs' : List (Option Pair)) (n : ℕ) (p p' : Pair) (c : IsChan
     room = counted;
   }
     where
-      named : (q : ℕ) → IfSome (of pairs' q) (λ pair. get name_cmp names (pair.home, pair.unit) ≡ Some q)
-      named = carried (λ pair q. get name_cmp names (pair.home, pair.unit) ≡ Some q) (ap (get name_cmp names) (λ i. (c.home i, c.unit i)) ∙ before (λ pair q. get name_cmp names (pair.home, pair.unit) ≡ Some q) kept.named) kept.named
+      named : (q : ℕ) → IfSome (of pairs' q) (λ pair. told names (pair.home, pair.unit) ≡ Some q)
+      named = carried (λ pair q. told names (pair.home, pair.unit) ≡ Some q) (ap (told names) (λ i. (c.home i, c.unit i)) ∙ before (λ pair q. told names (pair.home, pair.unit) ≡ Some q) kept.named) kept.named
 
-      standing : (k : Name) → IfSome (get name_cmp names k) (λ q. is_named k.0 k.1 (of pairs' q) ≡ true)
-      standing k = by (get name_cmp names k) (kept.standing k)
+      standing : (k : Name) → IfSome (told names k) (λ q. is_named k.0 k.1 (of pairs' q) ≡ true)
+      standing k = by (told names k) (kept.standing k)
         where
           by : (o : Option ℕ) → IfSome o (λ q. is_named k.0 k.1 (of pairs q) ≡ true) → IfSome o (λ q. is_named k.0 k.1 (of pairs' q) ≡ true)
           by None is = is

@@ -2,7 +2,6 @@
 use Rattle.std.proofs.Common.{◌≡◌, ℕ, ◌+◌, ◌<◌, ◌≤◌, Bool, true, false, not, ◌==◌, ◌&&◌, ◌||◌, List, [], ◌∷◌, ◌++◌, length, get_or, Option, Some, None, unwrap_or, IfSome, IsSome, refl, sym, subst, ap, ◌∙◌, arith, ⊎_elim}
 use Rattle.std.specs.Prelude.{slice_set, if◌then◌else◌}
 use Rattle.std.specs.List.{list_any}
-use Rattle.std.specs.BTreeMap.{get}
 use Rattle.std.specs.Cmp.{both_ways}
 use Rattle.std.proofs.lemmas.Bool.{eqb-true, eq-eqb, and_parts, and_from, not-false, cases_eq, cases_lt, false≢true, or_from}
 use Rattle.std.proofs.lemmas.List.{get_or_past, get_or_default}
@@ -17,11 +16,11 @@ use Rattle.vn_epair.specs.Halves.{End, Pair}
 use Rattle.vn_rules.specs.Scenes.{is_empty}
 use Rattle.vn_epair.specs.Pairs.{coming, with_coming, end_of, with_end, new_pair, is_awaiting, is_named, of, side_number}
 use Rattle.vn_epair.specs.Line.{Halves, rank, is_half, is_ranked, IsSettled}
-use Rattle.vn_epair.specs.Kept.{name_cmp, quiet_halves, is_right, IsKept}
+use Rattle.vn_epair.specs.Kept.{quiet_halves, is_right, IsKept, told, Names}
 use Rattle.vn_types.proofs.InterfaceNames.{half_id_eq-Decides}
 use Rattle.vn_epair.proofs.Lists.{any-agree, any-both, any-never}
 use Rattle.vn_epair.proofs.Order.{side-small}
-use Rattle.vn_epair.proofs.Changes.{Map, awaited_of, inside, IsChanged, here, elsewhere, kept-changed}
+use Rattle.vn_epair.proofs.Changes.{awaited_of, inside, IsChanged, here, elsewhere, kept-changed}
 
 side-same : (s t : Side) → side_number s ≡ side_number t → side_eq s t ≡ true
 side-same A A e = refl
@@ -38,9 +37,9 @@ sums l l' w i o o' e r = rw e (by w i r)
     by false true r = omega arith
     by false false r = omega arith
 
-module _ (pairs : List (Option Pair)) (names : Map) (line : Halves) (kept : IsKept pairs names line) (at : HalfId) (p : Pair) (was : of pairs at.pair ≡ Some p) where
-  own-name : get name_cmp names (p.home, p.unit) ≡ Some at.pair
-  own-name = subst (λ o. IfSome o (λ pair. get name_cmp names (pair.home, pair.unit) ≡ Some at.pair)) was (kept.named at.pair)
+module _ (pairs : List (Option Pair)) (names : Names) (line : Halves) (kept : IsKept pairs names line) (at : HalfId) (p : Pair) (was : of pairs at.pair ≡ Some p) where
+  own-name : told names (p.home, p.unit) ≡ Some at.pair
+  own-name = subst (λ o. IfSome o (λ pair. told names (pair.home, pair.unit) ≡ Some at.pair)) was (kept.named at.pair)
 
   own-unit : p.unit ≤ UNIT_MAX
   own-unit = subst (λ o. IfSome o (λ pair. pair.unit ≤ UNIT_MAX)) was (kept.units at.pair)
@@ -49,7 +48,7 @@ module _ (pairs : List (Option Pair)) (names : Map) (line : Halves) (kept : IsKe
   pub same-half : (e : Awaited) → not (is_right pairs e) ≡ false → is_ranked (rank (awaited_of p at)) e ≡ is_half at e
   same-half e right = by (of pairs e.half.pair) refl right (kept.named e.half.pair) (kept.units e.half.pair)
     where
-      by : (o : Option Pair) → of pairs e.half.pair ≡ o → not (is_named e.home.0 e.unit o) ≡ false → IfSome o (λ pair. get name_cmp names (pair.home, pair.unit) ≡ Some e.half.pair) → IfSome o (λ pair. pair.unit ≤ UNIT_MAX)
+      by : (o : Option Pair) → of pairs e.half.pair ≡ o → not (is_named e.home.0 e.unit o) ≡ false → IfSome o (λ pair. told names (pair.home, pair.unit) ≡ Some e.half.pair) → IfSome o (λ pair. pair.unit ≤ UNIT_MAX)
           → is_ranked (rank (awaited_of p at)) e ≡ is_half at e
       by None is h name unit = absurd (false≢true (sym h))
       by (Some q) is h' name unit = both_ways (is_ranked (rank (awaited_of p at)) e) (is_half at e) to from
@@ -73,7 +72,7 @@ module _ (pairs : List (Option Pair)) (names : Map) (line : Halves) (kept : IsKe
               let h : q.home ≡ p.home = omega (arith, home, units) in
               let u : q.unit ≡ p.unit = omega (arith, home, units) in
               let s : side_number at.side ≡ side_number e.half.side = omega (arith, home, units) in
-              let found : Some at.pair ≡ Some e.half.pair = sym own-name ∙ ap (get name_cmp names) (λ i. (sym h i, sym u i)) ∙ name in
+              let found : Some at.pair ≡ Some e.half.pair = sym own-name ∙ ap (told names) (λ i. (sym h i, sym u i)) ∙ name in
               let n : at.pair ≡ e.half.pair = cc in
               and_from (at.pair == e.half.pair) (side_eq at.side e.half.side) (eq-eqb at.pair e.half.pair n) (side-same at.side e.half.side s)
 
@@ -208,7 +207,7 @@ module _ (pairs : List (Option Pair)) (names : Map) (line : Halves) (kept : IsKe
                 omega arith
 
 -- neither side has a first frame, or its last one is gone
-pub kept-same : (pairs pairs' : List (Option Pair)) (names : Map) (line : Halves) (n : ℕ) (p p' : Pair) → IsChanged pairs pairs' n p p' → is_empty p'.a.sent ≡ is_empty p.a.sent → is_empty p'.b.sent ≡ is_empty p.b.sent
+pub kept-same : (pairs pairs' : List (Option Pair)) (names : Names) (line : Halves) (n : ℕ) (p p' : Pair) → IsChanged pairs pairs' n p p' → is_empty p'.a.sent ≡ is_empty p.a.sent → is_empty p'.b.sent ≡ is_empty p.b.sent
     → IsKept pairs names line → IsKept pairs' names line
 kept-same pairs pairs' names line n p p' c a b kept = kept-settled pairs names line kept (record { pair = n; side = A }) p c.was pairs' p' c a line (record {
   same = λ _. refl;
@@ -230,7 +229,7 @@ read pairs n x p some is value = get_or_default pairs n None x within ∙ sym is
     within : n < length pairs
     within = ⊎_elim (λ (lt : n < length pairs). lt) (λ (le : length pairs ≤ n). absurd (gone (of pairs n) some (get_or_past pairs n None le))) (cases_lt n (length pairs))
 
-module _ (pairs pairs' : List (Option Pair)) (names : Map) (line : Halves) (n : ℕ) (p p' : Pair) (was : of pairs n ≡ Some p) (is : pairs' ≡ slice_set pairs n (Some p')) (kept : IsKept pairs names line) where
+module _ (pairs pairs' : List (Option Pair)) (names : Names) (line : Halves) (n : ℕ) (p p' : Pair) (was : of pairs n ≡ Some p) (is : pairs' ≡ slice_set pairs n (Some p')) (kept : IsKept pairs names line) where
   -- one half changed, and the frames that it sent stay
   pub kept-end : (s : Side) (e : End) → p' ≡ with_end s e p → e.sent ≡ (end_of s p).sent → IsKept pairs' names line
   kept-end A e ends same = kept-same pairs pairs' names line n p p' (record { was = was; is = is; home = ap (λ (q : Pair). q.home) ends; unit = ap (λ (q : Pair). q.unit) ends }) (ap (λ (q : Pair). is_empty q.a.sent) ends ∙ ap is_empty same) (ap (λ (q : Pair). is_empty q.b.sent) ends) kept

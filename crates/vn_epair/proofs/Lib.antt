@@ -4,3 +4,4 @@ pub mod Changes
 pub mod Keeps
 pub mod Names
 pub mod Next
+pub mod Fillings

@@ -5,7 +5,7 @@ use Rattle.std.specs.List.{list_any}
 use Rattle.std.specs.Option.{is_some}
 use Rattle.std.specs.Ordering.{nat_cmp}
 use Rattle.std.specs.Cmp.{tied_then, unsigned_ties}
-use Rattle.std.specs.BTreeMap.{BTreeMap, get, is_at}
+use Rattle.std.specs.BTreeMap.{is_at}
 use Rattle.std.proofs.lemmas.Bool.{eqb-true, eq-eqb, and_parts, and_from, not-false, cases_eq, cases_order, false_from_ne_true, cond-true, cond-false, false≢true, or_from, or_parts}
 use Rattle.std.proofs.lemmas.List.{get_or-set_same, get_or-set_other, get_or_past, get_or_append_left, get_or_push}
 use Rattle.std.proofs.lemmas.List.Folds.{list_any_at}
@@ -20,12 +20,9 @@ use Rattle.vn_epair.specs.Halves.{Pair}
 use Rattle.vn_rules.specs.Scenes.{is_empty}
 use Rattle.vn_epair.specs.Pairs.{coming, new_pair, is_awaiting, is_named, of}
 use Rattle.vn_epair.specs.Line.{Halves, is_half}
-use Rattle.vn_epair.specs.Kept.{Name, name_cmp, quiet_halves, is_right, IsKept}
+use Rattle.vn_epair.specs.Kept.{Name, name_cmp, quiet_halves, is_right, IsKept, told, Names}
 use Rattle.vn_epair.proofs.Lists.{any-agree, any-never, any-or}
 use Rattle.vn_epair.proofs.Changes.{inside}
-
-abbrev Map : Type 0
-Map = BTreeMap Name ℕ
 
 -- names that compare as equal are one
 pub name-ties : (k q : Name) → is_at (name_cmp k) q ≡ ((k.0 == q.0) && (k.1 == q.1))
@@ -45,8 +42,8 @@ at-name k q a b = name-ties k q ∙ and_from (k.0 == q.0) (k.1 == q.1) (eq-eqb k
 
 -- ---- a pair is made
 
-module _ (pairs : List (Option Pair)) (names names' : Map) (line line' : Halves) (kept : IsKept pairs names line) (home unit : ℕ) (small : unit ≤ UNIT_MAX) (free : (q : ℕ) → is_named home unit (of pairs q) ≡ false)
-    (put : (k : Name) → get name_cmp names' k ≡ cond (is_at (name_cmp (home, unit)) k) (Some (length pairs)) (get name_cmp names k)) (listed : line'.listed ≡ line.listed) (room : line'.room ≡ line.room + 2) where
+module _ (pairs : List (Option Pair)) (names names' : Names) (line line' : Halves) (kept : IsKept pairs names line) (home unit : ℕ) (small : unit ≤ UNIT_MAX) (free : (q : ℕ) → is_named home unit (of pairs q) ≡ false)
+    (put : (k : Name) → told names' k ≡ cond (is_at (name_cmp (home, unit)) k) (Some (length pairs)) (told names k)) (listed : line'.listed ≡ line.listed) (room : line'.room ≡ line.room + 2) where
   here : of (pairs ++ Some (new_pair home unit) ∷ []) (length pairs) ≡ Some (new_pair home unit)
   here = get_or_push pairs (Some (new_pair home unit)) None (length pairs) refl
 
@@ -62,13 +59,13 @@ module _ (pairs : List (Option Pair)) (names names' : Map) (line line' : Halves)
       (λ c. ⊎_elim (λ (lt : q < length pairs). subst (P q) (sym (before q lt)) (others q (λ e. omega arith)))
       (λ (gt : length pairs < q). subst (P q) (sym (beyond q gt)) (subst (P q) (get_or_past pairs q None (omega arith)) (others q (λ e. omega arith)))) c) (cases_order q (length pairs))
 
-  found : (q : ℕ) (k : Name) → get name_cmp names k ≡ Some q → is_named k.0 k.1 (of pairs q) ≡ true
+  found : (q : ℕ) (k : Name) → told names k ≡ Some q → is_named k.0 k.1 (of pairs q) ≡ true
   found q k is = subst (λ o. IfSome o (λ q. is_named k.0 k.1 (of pairs q) ≡ true)) is (kept.standing k)
 
-  named : (q : ℕ) → IfSome (of (pairs ++ Some (new_pair home unit) ∷ []) q) (λ pair. get name_cmp names' (pair.home, pair.unit) ≡ Some q)
-  named = each (λ q o. IfSome o (λ pair. get name_cmp names' (pair.home, pair.unit) ≡ Some q)) (put (home, unit) ∙ cond-true _ _ _ (at-name (home, unit) (home, unit) refl refl)) (λ q ne. by q (of pairs q) refl (kept.named q))
+  named : (q : ℕ) → IfSome (of (pairs ++ Some (new_pair home unit) ∷ []) q) (λ pair. told names' (pair.home, pair.unit) ≡ Some q)
+  named = each (λ q o. IfSome o (λ pair. told names' (pair.home, pair.unit) ≡ Some q)) (put (home, unit) ∙ cond-true _ _ _ (at-name (home, unit) (home, unit) refl refl)) (λ q ne. by q (of pairs q) refl (kept.named q))
     where
-      by : (q : ℕ) (o : Option Pair) → of pairs q ≡ o → IfSome o (λ pair. get name_cmp names (pair.home, pair.unit) ≡ Some q) → IfSome o (λ pair. get name_cmp names' (pair.home, pair.unit) ≡ Some q)
+      by : (q : ℕ) (o : Option Pair) → of pairs q ≡ o → IfSome o (λ pair. told names (pair.home, pair.unit) ≡ Some q) → IfSome o (λ pair. told names' (pair.home, pair.unit) ≡ Some q)
       by q None is h = h
       by q (Some pair) is h = put (pair.home, pair.unit) ∙ cond-false _ _ _ (false_from_ne_true _ other) ∙ h
         where
@@ -79,10 +76,10 @@ module _ (pairs : List (Option Pair)) (names names' : Map) (line line' : Halves)
               let b = eqb-true unit pair.unit parts.1 in
               false≢true (sym (free q) ∙ ap (is_named home unit) is ∙ and_from (pair.home == home) (pair.unit == unit) (eq-eqb pair.home home (sym a)) (eq-eqb pair.unit unit (sym b)))
 
-  standing : (k : Name) → IfSome (get name_cmp names' k) (λ q. is_named k.0 k.1 (of (pairs ++ Some (new_pair home unit) ∷ []) q) ≡ true)
-  standing k = subst (λ o. IfSome o (λ q. is_named k.0 k.1 (of (pairs ++ Some (new_pair home unit) ∷ []) q) ≡ true)) (sym (put k)) (by (is_at (name_cmp (home, unit)) k) refl (get name_cmp names k) refl)
+  standing : (k : Name) → IfSome (told names' k) (λ q. is_named k.0 k.1 (of (pairs ++ Some (new_pair home unit) ∷ []) q) ≡ true)
+  standing k = subst (λ o. IfSome o (λ q. is_named k.0 k.1 (of (pairs ++ Some (new_pair home unit) ∷ []) q) ≡ true)) (sym (put k)) (by (is_at (name_cmp (home, unit)) k) refl (told names k) refl)
     where
-      by : (b : Bool) → is_at (name_cmp (home, unit)) k ≡ b → (o : Option ℕ) → get name_cmp names k ≡ o → IfSome (cond b (Some (length pairs)) o) (λ q. is_named k.0 k.1 (of (pairs ++ Some (new_pair home unit) ∷ []) q) ≡ true)
+      by : (b : Bool) → is_at (name_cmp (home, unit)) k ≡ b → (o : Option ℕ) → told names k ≡ o → IfSome (cond b (Some (length pairs)) o) (λ q. is_named k.0 k.1 (of (pairs ++ Some (new_pair home unit) ∷ []) q) ≡ true)
       by true e o is = ap (is_named k.0 k.1) here ∙ sym (name-ties (home, unit) k) ∙ e
       by false e None is = tt
       by false e (Some q) is =
@@ -117,8 +114,8 @@ module _ (pairs : List (Option Pair)) (names names' : Map) (line line' : Halves)
 
 -- ---- a pair goes
 
-module _ (pairs : List (Option Pair)) (names names' : Map) (line line' : Halves) (kept : IsKept pairs names line) (n : ℕ) (p : Pair) (was : of pairs n ≡ Some p) (empty-a : p.a.sent ≡ []) (empty-b : p.b.sent ≡ [])
-    (put : (k : Name) → get name_cmp names' k ≡ cond (is_at (name_cmp (p.home, p.unit)) k) None (get name_cmp names k)) (listed : line'.listed ≡ line.listed) (room : line'.room + 2 ≡ line.room) where
+module _ (pairs : List (Option Pair)) (names names' : Names) (line line' : Halves) (kept : IsKept pairs names line) (n : ℕ) (p : Pair) (was : of pairs n ≡ Some p) (empty-a : p.a.sent ≡ []) (empty-b : p.b.sent ≡ [])
+    (put : (k : Name) → told names' k ≡ cond (is_at (name_cmp (p.home, p.unit)) k) None (told names k)) (listed : line'.listed ≡ line.listed) (room : line'.room + 2 ≡ line.room) where
   gone : of (slice_set pairs n None) n ≡ None
   gone = get_or-set_same pairs n None None (inside pairs n p was)
 
@@ -128,13 +125,13 @@ module _ (pairs : List (Option Pair)) (names names' : Map) (line line' : Halves)
   left : (P : ℕ → Option Pair → Type 0) → P n None → ((q : ℕ) → q ≢ n → P q (of pairs q)) → (q : ℕ) → P q (of (slice_set pairs n None) q)
   left P at others q = ⊎_elim (λ (e : q ≡ n). subst (λ k. P k (of (slice_set pairs n None) k)) (sym e) (subst (P n) (sym gone) at)) (λ ne. subst (P q) (sym (stays q ne)) (others q ne)) (cases_eq q n)
 
-  own : get name_cmp names (p.home, p.unit) ≡ Some n
-  own = subst (λ o. IfSome o (λ pair. get name_cmp names (pair.home, pair.unit) ≡ Some n)) was (kept.named n)
+  own : told names (p.home, p.unit) ≡ Some n
+  own = subst (λ o. IfSome o (λ pair. told names (pair.home, pair.unit) ≡ Some n)) was (kept.named n)
 
-  named-left : (q : ℕ) → IfSome (of (slice_set pairs n None) q) (λ pair. get name_cmp names' (pair.home, pair.unit) ≡ Some q)
-  named-left = left (λ q o. IfSome o (λ pair. get name_cmp names' (pair.home, pair.unit) ≡ Some q)) tt (λ q ne. by q ne (of pairs q) refl (kept.named q))
+  named-left : (q : ℕ) → IfSome (of (slice_set pairs n None) q) (λ pair. told names' (pair.home, pair.unit) ≡ Some q)
+  named-left = left (λ q o. IfSome o (λ pair. told names' (pair.home, pair.unit) ≡ Some q)) tt (λ q ne. by q ne (of pairs q) refl (kept.named q))
     where
-      by : (q : ℕ) → q ≢ n → (o : Option Pair) → of pairs q ≡ o → IfSome o (λ pair. get name_cmp names (pair.home, pair.unit) ≡ Some q) → IfSome o (λ pair. get name_cmp names' (pair.home, pair.unit) ≡ Some q)
+      by : (q : ℕ) → q ≢ n → (o : Option Pair) → of pairs q ≡ o → IfSome o (λ pair. told names (pair.home, pair.unit) ≡ Some q) → IfSome o (λ pair. told names' (pair.home, pair.unit) ≡ Some q)
       by q ne None is h = h
       by q ne (Some pair) is h = put (pair.home, pair.unit) ∙ cond-false _ _ _ (false_from_ne_true _ other) ∙ h
         where
@@ -143,13 +140,13 @@ module _ (pairs : List (Option Pair)) (names names' : Map) (line line' : Halves)
               let parts = and_parts (p.home == pair.home) (p.unit == pair.unit) (sym (name-ties (p.home, p.unit) (pair.home, pair.unit)) ∙ e) in
               let a = eqb-true p.home pair.home parts.0 in
               let b = eqb-true p.unit pair.unit parts.1 in
-              let same : Some q ≡ Some n = sym h ∙ ap (get name_cmp names) (λ i. (sym a i, sym b i)) ∙ own in
+              let same : Some q ≡ Some n = sym h ∙ ap (told names) (λ i. (sym a i, sym b i)) ∙ own in
               ne cc
 
-  standing-left : (k : Name) → IfSome (get name_cmp names' k) (λ q. is_named k.0 k.1 (of (slice_set pairs n None) q) ≡ true)
-  standing-left k = subst (λ o. IfSome o (λ q. is_named k.0 k.1 (of (slice_set pairs n None) q) ≡ true)) (sym (put k)) (by (is_at (name_cmp (p.home, p.unit)) k) refl (get name_cmp names k) refl)
+  standing-left : (k : Name) → IfSome (told names' k) (λ q. is_named k.0 k.1 (of (slice_set pairs n None) q) ≡ true)
+  standing-left k = subst (λ o. IfSome o (λ q. is_named k.0 k.1 (of (slice_set pairs n None) q) ≡ true)) (sym (put k)) (by (is_at (name_cmp (p.home, p.unit)) k) refl (told names k) refl)
     where
-      by : (b : Bool) → is_at (name_cmp (p.home, p.unit)) k ≡ b → (o : Option ℕ) → get name_cmp names k ≡ o → IfSome (cond b None o) (λ q. is_named k.0 k.1 (of (slice_set pairs n None) q) ≡ true)
+      by : (b : Bool) → is_at (name_cmp (p.home, p.unit)) k ≡ b → (o : Option ℕ) → told names k ≡ o → IfSome (cond b None o) (λ q. is_named k.0 k.1 (of (slice_set pairs n None) q) ≡ true)
       by true e o is = tt
       by false e None is = tt
       by false e (Some q) is =
@@ -215,7 +212,7 @@ module _ (pairs : List (Option Pair)) (names names' : Map) (line line' : Halves)
           by B same a b = false≢true (sym b ∙ and_from (n == e.half.pair) true (eq-eqb n e.half.pair (sym same)) refl)
 
 -- nothing is made or goes
-pub kept-as : (pairs pairs' : List (Option Pair)) (names names' : Map) (line line' : Halves) → pairs' ≡ pairs → ((k : Name) → get name_cmp names' k ≡ get name_cmp names k) → line'.listed ≡ line.listed → line'.room ≡ line.room
+pub kept-as : (pairs pairs' : List (Option Pair)) (names names' : Names) (line line' : Halves) → pairs' ≡ pairs → ((k : Name) → told names' k ≡ told names k) → line'.listed ≡ line.listed → line'.room ≡ line.room
     → IsKept pairs names line → IsKept pairs' names' line'
 kept-as pairs pairs' names names' line line' same found listed room kept = subst (λ ps. IsKept ps names' line') (sym same) (record {
   named = λ q. by q (of pairs q) (kept.named q);
@@ -226,30 +223,30 @@ kept-as pairs pairs' names names' line line' same found listed room kept = subst
   room = room ∙ kept.room;
 })
   where
-    by : (q : ℕ) (o : Option Pair) → IfSome o (λ pair. get name_cmp names (pair.home, pair.unit) ≡ Some q) → IfSome o (λ pair. get name_cmp names' (pair.home, pair.unit) ≡ Some q)
+    by : (q : ℕ) (o : Option Pair) → IfSome o (λ pair. told names (pair.home, pair.unit) ≡ Some q) → IfSome o (λ pair. told names' (pair.home, pair.unit) ≡ Some q)
     by q None h = h
     by q (Some pair) h = found (pair.home, pair.unit) ∙ h
 
 -- a name is not found exactly where no pair has it
-pub none-named : (pairs : List (Option Pair)) (names : Map) (line : Halves) → IsKept pairs names line → (home unit : ℕ) → get name_cmp names (home, unit) ≡ None → (q : ℕ) → is_named home unit (of pairs q) ≡ false
+pub none-named : (pairs : List (Option Pair)) (names : Names) (line : Halves) → IsKept pairs names line → (home unit : ℕ) → told names (home, unit) ≡ None → (q : ℕ) → is_named home unit (of pairs q) ≡ false
 none-named pairs names line kept home unit none q = false_from_ne_true (is_named home unit (of pairs q)) (λ is. by (named-some home unit (of pairs q) is))
   where
     by : ((pair : Pair) × (of pairs q ≡ Some pair) × (pair.home ≡ home) × (pair.unit ≡ unit)) → ⊥
     by p =
-        let found : get name_cmp names (p.0.home, p.0.unit) ≡ Some q = subst (λ o. IfSome o (λ pair. get name_cmp names (pair.home, pair.unit) ≡ Some q)) p.1 (kept.named q) in
-        let same : None ≡ Some q = sym none ∙ ap (get name_cmp names) (λ i. (sym p.2 i, sym p.3 i)) ∙ found in
+        let found : told names (p.0.home, p.0.unit) ≡ Some q = subst (λ o. IfSome o (λ pair. told names (pair.home, pair.unit) ≡ Some q)) p.1 (kept.named q) in
+        let same : None ≡ Some q = sym none ∙ ap (told names) (λ i. (sym p.2 i, sym p.3 i)) ∙ found in
         cc
 
-pub some-named : (pairs : List (Option Pair)) (names : Map) (line : Halves) → IsKept pairs names line → (home unit n : ℕ) → get name_cmp names (home, unit) ≡ Some n → is_named home unit (of pairs n) ≡ true
+pub some-named : (pairs : List (Option Pair)) (names : Names) (line : Halves) → IsKept pairs names line → (home unit n : ℕ) → told names (home, unit) ≡ Some n → is_named home unit (of pairs n) ≡ true
 some-named pairs names line kept home unit n is = subst (λ o. IfSome o (λ q. is_named home unit (of pairs q) ≡ true)) is (kept.standing (home, unit))
 
-pub one-named : (pairs : List (Option Pair)) (names : Map) (line : Halves) → IsKept pairs names line → (home unit n : ℕ) → get name_cmp names (home, unit) ≡ Some n → (q : ℕ) → is_named home unit (of pairs q) ≡ true → q ≡ n
+pub one-named : (pairs : List (Option Pair)) (names : Names) (line : Halves) → IsKept pairs names line → (home unit n : ℕ) → told names (home, unit) ≡ Some n → (q : ℕ) → is_named home unit (of pairs q) ≡ true → q ≡ n
 one-named pairs names line kept home unit n is q named = by (named-some home unit (of pairs q) named)
   where
     by : ((pair : Pair) × (of pairs q ≡ Some pair) × (pair.home ≡ home) × (pair.unit ≡ unit)) → q ≡ n
     by p =
-        let found : get name_cmp names (p.0.home, p.0.unit) ≡ Some q = subst (λ o. IfSome o (λ pair. get name_cmp names (pair.home, pair.unit) ≡ Some q)) p.1 (kept.named q) in
-        let same : Some n ≡ Some q = sym is ∙ ap (get name_cmp names) (λ i. (sym p.2 i, sym p.3 i)) ∙ found in
+        let found : told names (p.0.home, p.0.unit) ≡ Some q = subst (λ o. IfSome o (λ pair. told names (pair.home, pair.unit) ≡ Some q)) p.1 (kept.named q) in
+        let same : Some n ≡ Some q = sym is ∙ ap (told names) (λ i. (sym p.2 i, sym p.3 i)) ∙ found in
         cc
 
 -- a test of what stands of each number, over the list
@@ -260,9 +257,9 @@ any-of (x ∷ xs) home unit none = or_from (is_named home unit x) (list_any (is_
 pub any-at : (pairs : List (Option Pair)) (home unit n : ℕ) → is_named home unit (of pairs n) ≡ true → list_any (is_named home unit) pairs ≡ true
 any-at pairs home unit n is = let p = named-some home unit (of pairs n) is in list_any_at (is_named home unit) pairs n None (inside pairs n p.0 p.1) is
 
-pub is-homed : (pairs : List (Option Pair)) (names : Map) (line : Halves) → IsKept pairs names line → (home unit : ℕ) → is_some (get name_cmp names (home, unit)) ≡ list_any (is_named home unit) pairs
-is-homed pairs names line kept home unit = by (get name_cmp names (home, unit)) refl
+pub is-homed : (pairs : List (Option Pair)) (names : Names) (line : Halves) → IsKept pairs names line → (home unit : ℕ) → is_some (told names (home, unit)) ≡ list_any (is_named home unit) pairs
+is-homed pairs names line kept home unit = by (told names (home, unit)) refl
   where
-    by : (o : Option ℕ) → get name_cmp names (home, unit) ≡ o → is_some o ≡ list_any (is_named home unit) pairs
+    by : (o : Option ℕ) → told names (home, unit) ≡ o → is_some o ≡ list_any (is_named home unit) pairs
     by None is = sym (any-of pairs home unit (none-named pairs names line kept home unit is))
     by (Some n) is = sym (any-at pairs home unit n (some-named pairs names line kept home unit n is))

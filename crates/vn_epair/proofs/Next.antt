@@ -2,7 +2,6 @@
 use Rattle.std.proofs.Common.{◌≡◌, ◌≢◌, ℕ, ◌<◌, ◌≤◌, Bool, true, false, not, ◌==◌, ◌&&◌, List, length, get_or, Option, unwrap_or, IfSome, refl, sym, subst, ap, ◌∙◌, arith, ⊎_elim}
 use Rattle.std.specs.Prelude.{nat_lt}
 use Rattle.std.specs.List.{list_any}
-use Rattle.std.specs.BTreeMap.{BTreeMap}
 use Rattle.std.proofs.lemmas.Bool.{eq-eqb, and_from, not-false, false_from_ne_true, lt-ltb, le-ltb, cases_lt, false≢true}
 use Rattle.std.proofs.lemmas.List.Folds.{list_any_at}
 use Rattle.vn_types.specs.declared.interface.HalfId.{HalfId}
@@ -13,12 +12,12 @@ use Rattle.vn_epair.specs.declared.pair_row.TheConstants.{UNIT_MAX}
 use Rattle.vn_epair.specs.Halves.{Pair}
 use Rattle.vn_epair.specs.Pairs.{home_of, is_awaiting, new_pair, of, turn, turn_of, IsNextQueued}
 use Rattle.vn_epair.specs.Line.{Halves, is_half, rank}
-use Rattle.vn_epair.specs.Kept.{Name, is_right, IsKept}
+use Rattle.vn_epair.specs.Kept.{is_right, IsKept, Names}
 use Rattle.vn_epair.proofs.Lists.{any-agree, any-never}
 use Rattle.vn_epair.proofs.Names.{named-some}
 use Rattle.vn_epair.proofs.Order.{Found, found}
 
-module _ (pairs : List (Option Pair)) (names : BTreeMap Name ℕ) (line : Halves) (kept : IsKept pairs names line) where
+module _ (pairs : List (Option Pair)) (names : Names) (line : Halves) (kept : IsKept pairs names line) where
   -- what is listed is listed under its pair's home and unit
   right-at : (e : Awaited) (k : ℕ) → k < length line.listed → ((d : Awaited) → get_or line.listed k d ≡ e) → is_right pairs e ≡ true
   right-at e k within is = not-false (is_right pairs e) (false_from_ne_true (not (is_right pairs e)) (λ bad. false≢true (sym kept.right ∙ list_any_at (λ e. not (is_right pairs e)) line.listed k e within (ap (λ x. not (is_right pairs x)) (is e) ∙ bad))))

@@ -3,6 +3,7 @@
 
 mod half_row;
 mod line;
+mod name_index;
 mod pair_row;
 mod pairs;
 

@@ -9,10 +9,10 @@ ghost use Rattle.vn_epair.specs.Pairs.{coming_to, create_refusal, emptied, new_p
 mod halves;
 
 use crate::line::{Awaited, Line};
+use crate::name_index::NameIndex;
 use crate::pair_row::{PairRow, UNIT_MAX};
 use bytes::Bytes;
 use std::alloc::Global;
-use std::collections::BTreeMap;
 use std::marker::Model;
 use vn_types::{Errno, HalfId, IfName, Mac, NoMemory, Reply, Sid, Side, Standing};
 
@@ -21,8 +21,7 @@ use vn_types::{Errno, HalfId, IfName, Mac, NoMemory, Reply, Sid, Side, Standing}
 pub struct Pairs {
     alloc: Global,
     rows: Vec<Option<PairRow>>,
-    /// The numbers, by home and unit.
-    names: BTreeMap<(u32, u32), u32>,
+    names: NameIndex,
     /// The halves to which frames come.
     line: Line,
 }
@@ -47,7 +46,7 @@ impl Pairs {
         Ok(Pairs {
             alloc,
             rows: Vec::new(alloc),
-            names: BTreeMap::new(alloc),
+            names: NameIndex::new(alloc),
             line: Line::new(alloc),
         })
     }
@@ -65,7 +64,7 @@ impl Pairs {
         if unit > UNIT_MAX {
             return Ok(Err(Errno::Inval));
         }
-        if self.names.contains_key(&(home.0, unit)) {
+        if self.is_homed(home, unit) {
             return Ok(Err(Errno::Exist));
         }
         let number = self.rows.len() as u32;
@@ -83,7 +82,7 @@ impl Pairs {
         let row = PairRow::new(self.alloc, home, unit)?;
         self.rows.reserve(1)?;
         self.line.reserve()?;
-        let Ok(_) = self.names.insert((home.0, unit), number) else {
+        let Ok(()) = self.names.insert(home, unit, number) else {
             self.line.release();
             return Err(NoMemory);
         };
@@ -98,7 +97,7 @@ impl Pairs {
         ensures lowest { IsLowestFree (S.stands standing.now home) home.0 self.now result }
         ensures unit { result ≤ UNIT_MAX }
     {
-        let mut unit = 0;
+        let mut unit = self.names.filled(home);
         while !self.is_free(home, unit, standing) {
             unit += 1;
         }
@@ -128,7 +127,7 @@ impl Pairs {
     fn is_homed(&self, home: Sid, unit: u32) -> bool
         ensures { result ≡ list_any (is_named home.0 unit) self.now }
     {
-        self.names.contains_key(&(home.0, unit))
+        self.names.number(home, unit).is_some()
     }
 
     /// Takes a pair away, with the frames that wait.
@@ -153,7 +152,7 @@ impl Pairs {
         let Some(row) = self.rows[pair as usize].take() else {
             unreachable!()
         };
-        self.names.remove(&(row.home().0, row.unit()));
+        self.names.remove(row.home(), row.unit());
         self.line.release();
     }
 
@@ -240,7 +239,7 @@ impl Pairs {
         ensures alone { IfSome result (λ n. (q : ℕ) → is_named home.0 unit (of self.now q) ≡ true → q ≡ n) }
         ensures none { IfNone result ((q : ℕ) → is_named home.0 unit (of self.now q) ≡ false) }
     {
-        self.names.get(&(home.0, unit)).copied()
+        self.names.number(home, unit)
     }
 
     /// The first half to which a frame comes, by the place of its home in the order, then by unit and side.

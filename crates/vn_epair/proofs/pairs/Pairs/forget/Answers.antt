@@ -1,8 +1,8 @@
 use Rattle.std.proofs.Common.{◌≡◌, [], cond, Some, None, IsSome, unwrap_or, subst, sym, ap, ap₂, ◌∙◌}
-use Rattle.std.specs.BTreeMap.{get, is_at}
+use Rattle.std.specs.BTreeMap.{is_at}
 use Rattle.vn_epair.specs.Halves.{Pair}
 use Rattle.vn_epair.specs.Pairs.{new_pair, of, pair_of}
-use Rattle.vn_epair.specs.Kept.{name_cmp}
+use Rattle.vn_epair.specs.Kept.{name_cmp, told}
 use Rattle.vn_epair.proofs.Keeps.{read}
 use Rattle.vn_epair.proofs.Names.{kept-gone}
 use Rattle.vn_epair.proofs.pairs.Pairs.forget.Goals as goal
@@ -16,5 +16,5 @@ invariant_of-self c =
     let b : c.in-Some.row.b.sent ≡ [] = sym (ap (λ (p : Pair). p.b.sent) (c.requires.empty ∙ row)) in
     rw c.take.ensures.after
     (kept-gone c.self.inside.rows.items c.self.inside.names c.remove.new.self c.self.inside.line c.release.new.self c.self.invariant c.args.pair c.in-Some.row was a b
-    (λ k. c.remove.ensures.updates.0 k ∙ ap₂ (λ h u. cond (is_at (name_cmp (h, u)) k) None (get name_cmp c.self.inside.names k)) c.home.ensures c.unit.ensures)
+    (λ k. c.remove.ensures k ∙ ap₂ (λ h u. cond (is_at (name_cmp (h, u)) k) None (told c.self.inside.names k)) c.home.ensures c.unit.ensures)
     c.release.ensures.listed c.release.ensures.room)
