@@ -3,6 +3,8 @@
 #![tactic(auto)]
 
 #[cfg(test)]
+mod arp;
+#[cfg(test)]
 mod callout;
 #[cfg(test)]
 mod epair;
@@ -20,5 +22,7 @@ mod loopback;
 mod ring;
 #[cfg(test)]
 mod route;
+#[cfg(test)]
+mod sock;
 #[cfg(test)]
 mod sysinit;
