@@ -1,0 +1,7 @@
+pub mod Tallies
+pub mod Parts
+pub mod Nets
+pub mod Leaving
+pub mod Moves
+pub mod Sound
+pub mod Places
