@@ -31,8 +31,7 @@ pub fn write_command(command: &Command, out: &mut Vec<u8>) -> Result<(), NoMemor
     ensures kept { OnErr result (out.new.items ≡ out.old.items) }
 {
     let start = out.len();
-    let written = put_command(command, out);
-    restore(written, start, out)
+    restore(put_command(command, out), start, out)
 }
 
 /// Puts a command at the end of the output.

@@ -17,8 +17,7 @@ pub fn write_history(history: &History, out: &mut Vec<u8>) -> Result<(), NoMemor
     ensures kept { OnErr result (out.new.items ≡ out.old.items) }
 {
     let start = out.len();
-    let written = put_history(history.events(), out);
-    restore(written, start, out)
+    restore(put_history(history.events(), out), start, out)
 }
 
 #[tactic(auto, using(crate::proofs::Putting::history_put))]

@@ -16,8 +16,7 @@ pub fn write_report(report: &Report, out: &mut Vec<u8>) -> Result<(), NoMemory>
     ensures kept { OnErr result (out.new.items ≡ out.old.items) }
 {
     let start = out.len();
-    let written = put_report(report, out);
-    restore(written, start, out)
+    restore(put_report(report, out), start, out)
 }
 
 #[tactic(auto, using(crate::proofs::Putting::report_put))]
@@ -42,8 +41,7 @@ pub fn write_sections(
     ensures kept { OnErr result (out.new.items ≡ out.old.items) }
 {
     let start = out.len();
-    let written = put_transcripts(report, only, out);
-    restore(written, start, out)
+    restore(put_transcripts(report, only, out), start, out)
 }
 
 #[tactic(auto, using(crate::proofs::Putting::transcripts_put))]

@@ -17,8 +17,7 @@ pub fn write_watches(watches: &[Watch], out: &mut Vec<u8>) -> Result<(), NoMemor
     ensures kept { OnErr result (out.new.items ≡ out.old.items) }
 {
     let start = out.len();
-    let written = put_watches(watches, out);
-    restore(written, start, out)
+    restore(put_watches(watches, out), start, out)
 }
 
 fn put_watches(watches: &[Watch], out: &mut Vec<u8>) -> Result<(), NoMemory>
