@@ -31,9 +31,9 @@ use Rattle.vn_types.proofs.PathReading.{is_path-path_of}
 use Rattle.vn_rules.specs.Networks.{network_of, lies_in}
 use Rattle.vn_cells.specs.declared.command.Payload.{Payload}
 use Rattle.vn_cells.specs.declared.command.Payload.TheVariants as payload
-use Rattle.vn_cells.specs.machine.Bounds.{is_octet, is_unit, is_port, is_value, is_ttl, is_wait, is_ip, is_mac, is_ifname, is_prefix}
-use Rattle.vn_cells.specs.machine.Events.{is_lane, is_valid_payload}
-use Rattle.vn_shell.specs.Words.{such_that, lane_of, port_of, ttl_of, wait_of, named_of, below_host, behind}
+use Rattle.vn_cells.specs.machine.Bounds.{is_octet, is_unit, is_value, is_ip, is_mac, is_ifname, is_prefix}
+use Rattle.vn_cells.specs.machine.Events.{is_valid_payload}
+use Rattle.vn_shell.specs.Words.{such_that, named_of, below_host, behind}
 use Rattle.vn_shell.specs.Commands.Route.{everywhere, host_route, network_route, dest_of}
 use Rattle.vn_shell.specs.Commands.Udp.{digits_of, zeros_of, payload_of}
 use Rattle.vn_shell.proofs.Found.{some_then, some_map, some_if, some_or, some_where, some_such, some_at}
@@ -49,25 +49,10 @@ value_in word =
     some_at (λ n. is_value n ≡ true) (number_up_to 18446744073709551615 word)
     (λ n e. lt-ltb n (2 ^ 64) (omega (arith, (number_parts 18446744073709551615 word n e).2)))
 
-such_number : (test : ℕ → Bool) (word : List ℕ) → IfSome (number_of word >>= such_that test) (λ n. test n ≡ true)
+-- a number that passes a test
+pub such_number : (test : ℕ → Bool) (word : List ℕ) → IfSome (number_of word >>= such_that test) (λ n. test n ≡ true)
 such_number test word =
     some_then (λ n. is_value n ≡ true) (λ n. test n ≡ true) (number_of word) (such_that test) (value_in word) (λ n h. some_such test n)
-
-pub lane_in : (word : List ℕ) → IfSome (lane_of word) (λ n. is_lane n ≡ true)
-unfolding lane_of
-lane_in word = such_number is_lane word
-
-pub port_in : (word : List ℕ) → IfSome (port_of word) (λ n. is_port n ≡ true)
-unfolding port_of
-port_in word = such_number is_port word
-
-pub ttl_in : (word : List ℕ) → IfSome (ttl_of word) (λ n. is_ttl n ≡ true)
-unfolding ttl_of
-ttl_in word = such_number is_ttl word
-
-pub wait_in : (word : List ℕ) → IfSome (wait_of word) (λ n. is_wait n ≡ true)
-unfolding wait_of
-wait_in word = such_number is_wait word
 
 -- the number behind a beginning
 pub behind_in : (start : List ℕ) (test : ℕ → Bool) (word : List ℕ) → IfSome (behind start word >>= number_of >>= such_that test) (λ n. test n ≡ true)

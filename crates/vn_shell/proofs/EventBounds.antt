@@ -26,12 +26,10 @@ use Rattle.vn_shell.specs.Grammar.{is_text}
 use Rattle.vn_shell.specs.Histories.{events_from, history_line_of, is_last, nothing_behind, told_by, with_event, with_line}
 use Rattle.vn_shell.specs.Requests.{table_of}
 use Rattle.vn_shell.specs.Words.{lane_of, such_that, wait_of, words_of}
-use Rattle.vn_shell.proofs.Bounds.{lane_in, path_in, unit_parts_in, wait_in}
-use Rattle.vn_shell.proofs.Commands.{valid_below}
+use Rattle.vn_shell.proofs.Bounds.{path_in, such_number, unit_parts_in}
+use Rattle.vn_shell.proofs.Commands.{Bounded, valid_below}
 use Rattle.vn_shell.proofs.Found.{some_at, some_end, some_if, some_map, some_one, some_then, some_where}
-use Rattle.vn_shell.proofs.Jail.{Fits}
 use Rattle.vn_shell.proofs.Requests.{command_in}
-use Rattle.vn_shell.proofs.Room.{room}
 
 abbrev CanHappen : Event → Type 0
 CanHappen e = is_valid_event e ≡ true
@@ -72,8 +70,8 @@ run_in : (lane : ℕ) (path : Path) → is_at_path lane path ≡ true → (words
 unfolding is_valid_event
 run_in lane path at words =
     some_map (λ (c : Command). is_valid_command path c ≡ true) CanHappen (command_of words >>= such_that (has_room path)) (event.Cmd lane path)
-    (some_then (Fits 28 (room words)) (λ (c : Command). is_valid_command path c ≡ true) (command_of words) (such_that (has_room path)) (command_in words)
-    (λ c h. some_where (λ (c : Command). is_valid_command path c ≡ true) (has_room path c) c (λ few. valid_below path c h.0 few)))
+    (some_then Bounded (λ (c : Command). is_valid_command path c ≡ true) (command_of words) (such_that (has_room path)) (command_in words)
+    (λ c h. some_where (λ (c : Command). is_valid_command path c ≡ true) (has_room path c) c (λ few. valid_below path c h few)))
     (λ c h. and_from _ _ at h)
 
 done_in : (verb : List ℕ) (lane : ℕ) (path : Path) → is_at_path lane path ≡ true → (words : List (List ℕ)) → IfSome (done_of verb lane path words) CanHappen
@@ -86,18 +84,18 @@ done_in verb lane path at words =
     (some_if CanHappen (bytes_eq verb (codes "close")) _ None (some_end CanHappen words (Some (event.Close lane path)) at) tt)))
 
 lane_event_in : (verb : List ℕ) (words : List (List ℕ)) → IfSome (lane_event_of verb words) CanHappen
-unfolding lane_event_of
+unfolding lane_event_of lane_of
 lane_event_in verb [] = tt
 lane_event_in verb (lane ∷ []) = tt
 lane_event_in verb (lane ∷ path ∷ words) =
-    some_then (λ n. is_lane n ≡ true) CanHappen (lane_of lane) _ (lane_in lane)
+    some_then (λ n. is_lane n ≡ true) CanHappen (lane_of lane) _ (such_number is_lane lane)
     (λ n h. some_then IsPath CanHappen (path_of path) _ (path_in path) (λ p i. done_in verb n p (and_from _ _ h i) words))
 
 event_in : (words : List (List ℕ)) → IfSome (event_of words) CanHappen
-unfolding event_of happening_of is_valid_event
+unfolding event_of happening_of is_valid_event wait_of
 event_in [] = tt
 event_in (verb ∷ words) =
-    some_if CanHappen (bytes_eq verb (codes "tick")) _ _ (some_one (λ n. is_wait n ≡ true) CanHappen wait_of event.Tick wait_in (λ n h. h) words)
+    some_if CanHappen (bytes_eq verb (codes "tick")) _ _ (some_one (λ n. is_wait n ≡ true) CanHappen wait_of event.Tick (such_number is_wait) (λ n h. h) words)
     (some_if CanHappen (bytes_eq verb (codes "deliver")) _ _ (some_one IsHalf CanHappen half_of event.Deliver half_in (λ half h. h) words)
     (some_if CanHappen (bytes_eq verb (codes "loop")) _ _ (some_one IsPath CanHappen path_of event.LoopDeliver path_in (λ path h. h) words)
     (some_if CanHappen (bytes_eq verb (codes "fire")) _ _ (some_one IsPath CanHappen path_of event.Fire path_in (λ path h. h) words)

@@ -51,12 +51,3 @@ some_two P R Q first second make h k g (one ∷ []) = tt
 some_two P R Q first second make h k g (one ∷ two ∷ []) =
     some_then P Q (first one) _ (h one) (λ x p. some_then R Q (second two) _ (k two) (λ y r. g x y p r))
 some_two P R Q first second make h k g (one ∷ two ∷ other ∷ words) = tt
-
-pub some_weaker : {A : Type 0} (P Q : A → Type 0) (o : Option A) → IfSome o P → ((x : A) → P x → Q x) → IfSome o Q
-some_weaker P Q None h g = tt
-some_weaker P Q (Some x) h g = g x h
-
--- the first branch under its own equation
-pub some_if_at : {A : Type 0} (Q : A → Type 0) (b : Bool) (x y : Option A) → (b ≡ true → IfSome x Q) → IfSome y Q → IfSome (cond b x y) Q
-some_if_at Q true x y h g = h refl
-some_if_at Q false x y h g = g

@@ -29,7 +29,6 @@ use Rattle.vn_cells.specs.texts.Programs.{command_text, destination_text, endpoi
 use Rattle.vn_rules.specs.Networks.{lies_in}
 use Rattle.vn_shell.specs.Commands.Jail.{is_limit}
 use Rattle.vn_shell.proofs.ByWords.{is_path_named, named}
-use Rattle.vn_shell.proofs.Room.{room}
 
 -- ---- texts in a row
 
@@ -49,6 +48,11 @@ number_at n small = length-decimal-le 20 n (omega arith) (omega (arith, small)) 
 
 octet_at : (n : ℕ) → n < 256 → length (decimal n) ≤ 3
 octet_at n small = length-decimal-le 3 n (omega arith) (omega (arith, small)) (omega (arith, small))
+
+-- the octets of texts, with one more behind each
+abbrev room : List (List ℕ) → ℕ
+room [] = 0
+room (t ∷ texts) = length t + 1 + room texts
 
 join_room : (d : ℕ) (texts : List (List ℕ)) → length (join_with_byte d texts) ≤ room texts
 join_room d [] = omega arith

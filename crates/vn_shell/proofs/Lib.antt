@@ -1,6 +1,5 @@
 pub mod Splitting
 pub mod Settings
-pub mod Room
 pub mod Scripts
 pub mod Found
 pub mod Bounds

@@ -45,7 +45,6 @@ use Rattle.vn_shell.specs.Commands.Route.{everywhere, host_route, network_route,
 use Rattle.vn_shell.specs.Commands.Sysctl.{around, assignment_of}
 use Rattle.vn_shell.specs.Commands.Udp.{digits_of, zeros_of, payload_of}
 use Rattle.vn_shell.proofs.Bounds.{is_named}
-use Rattle.vn_shell.proofs.Jail.{no_path}
 use Rattle.vn_shell.proofs.SpacedWords.{is_between, apart_from, lacks_all, ip_lacks, prefix_word, number_graphic, mac_graphic, path_graphic, filled_read}
 
 -- a word that reads is no word that does not
@@ -247,6 +246,10 @@ no_mac = refl
 
 pub mac_word : (mac : Mac) → is_mac mac ≡ true → is_between (mac_text mac) ≡ true
 mac_word mac h = and_from _ _ (mac_graphic mac (mac_octets mac h)) (filled_read mac_of mac (mac_text mac) no_mac (mac_back mac h))
+
+no_path : path_of [] ≡ None
+unfolding path_of labels_of is_path pieces is_label
+no_path = refl
 
 pub path_word : (path : Path) → is_path path ≡ true → is_between (path_text path) ≡ true
 path_word path h = and_from _ _ (path_graphic path h) (filled_read path_of path (path_text path) no_path (path_of-path_text path h))

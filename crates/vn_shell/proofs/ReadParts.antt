@@ -1,9 +1,8 @@
 -- The parts of lines that can happen can happen, and the program runs them where it runs the lines.
-use Rattle.std.proofs.Common.{◌≡◌, ℕ, ◌+◌, ◌*◌, ◌≤◌, Bool, true, List, [], ◌∷◌, ◌++◌, length, Result, Ok, Err, refl, sym, ap, subst, ◌∙◌, append-nil, length-append, arith, true≢false}
+use Rattle.std.proofs.Common.{◌≡◌, ℕ, Bool, true, List, [], ◌∷◌, ◌++◌, Result, Ok, Err, refl, sym, ap, subst, true≢false}
 use Rattle.std.specs.Prelude.{IfOk}
-use Rattle.std.specs.List.{flat_map, list_all}
+use Rattle.std.specs.List.{list_all}
 use Rattle.std.proofs.lemmas.Bool.{and_parts, and_from}
-use Rattle.std.proofs.lemmas.List.Folds.{list_all-append}
 use Rattle.vn_cells.specs.declared.script.LaneLine.{LaneLine}
 use Rattle.vn_cells.specs.declared.script.Part.{Part}
 use Rattle.vn_cells.specs.declared.script.Part.TheVariants as part
@@ -17,10 +16,9 @@ use Rattle.vn_shell.specs.declared.item.Item.TheVariants as item
 use Rattle.vn_shell.specs.declared.script.Reason.{Reason}
 use Rattle.vn_shell.specs.Words.{lines_of}
 use Rattle.vn_shell.specs.Grammar.{items_from, phases, parts_after, in_script, script_by, script_of}
-use Rattle.vn_shell.specs.Readings.{is_built_lane, is_built_part, is_built_script, lane_lines, lines_in, parts_in}
+use Rattle.vn_shell.specs.Readings.{is_built_lane, is_built_part, is_built_script, parts_in}
 use Rattle.vn_shell.proofs.Lists.{all_both}
 use Rattle.vn_shell.proofs.Meanings.{AllHappen, is_valid_item, is_built_item, items_in}
-use Rattle.vn_shell.proofs.Room.{room, room-lines}
 
 all_more : {X : Type 0} (p : X → Bool) (xs : List X) (x : X) → list_all p xs ≡ true → p x ≡ true → list_all p (xs ++ x ∷ []) ≡ true
 all_more p xs x h e = all_both p xs (x ∷ []) h (and_from _ _ e refl)
@@ -63,38 +61,23 @@ built_after lines (item.Phase ∷ items) h g = absurd (true≢false (sym g))
 built_after lines (item.Settle ∷ items) h g = absurd (true≢false (sym g))
 built_after lines (item.Sleep n ∷ items) h g = absurd (true≢false (sym g))
 
-phase_lines : (lines : List LaneLine) → flat_map lines_in (phases lines) ≡ lines
-unfolding phases
-phase_lines [] = refl
-phase_lines (line ∷ lines) = append-nil (line ∷ lines)
-
-counted : (lines : List LaneLine) (items : List Item) → list_all is_built_item items ≡ true → length (flat_map lines_in (parts_after lines items)) ≡ length lines + length items
-unfolding parts_after
-counted lines [] g = omega (arith, ap length (phase_lines lines))
-counted lines (item.Lane line ∷ items) g =
-    let at = and_parts (is_built_lane line) (list_all is_built_item items) g in
-    omega (arith, counted (lines ++ line ∷ []) items at.1, length-append lines (line ∷ []))
-counted lines (item.Phase ∷ items) g = absurd (true≢false (sym g))
-counted lines (item.Settle ∷ items) g = absurd (true≢false (sym g))
-counted lines (item.Sleep n ∷ items) g = absurd (true≢false (sym g))
-
 -- ---- of a text that was read
 
 -- the items that parts are made of
-record Of (forms : Forms) (octets : ℕ) (ps : List Part) : Type 0 where
+record Of (forms : Forms) (ps : List Part) : Type 0 where
   items : List Item
   same : parts_after [] items ≡ ps
-  happen : AllHappen forms octets items
+  happen : AllHappen forms items
 
-of_items : (forms : Forms) (octets : ℕ) (r : Result (List Item) (ℕ × Reason)) (ps : List Part) → IfOk r (AllHappen forms octets) → parts_in r ≡ Ok ps → Of forms octets ps
-of_items forms octets (Ok items) ps h e = record { items = items; same = cc; happen = h }
-of_items forms octets (Err d) ps h e = cc
+of_items : (forms : Forms) (r : Result (List Item) (ℕ × Reason)) (ps : List Part) → IfOk r (AllHappen forms) → parts_in r ≡ Ok ps → Of forms ps
+of_items forms (Ok items) ps h e = record { items = items; same = cc; happen = h }
+of_items forms (Err d) ps h e = cc
 
 abbrev Read : Forms → List ℕ → List Part → Type 0
 Read forms text ps = parts_in (items_from forms 1 (lines_of text)) ≡ Ok ps
 
-of_text : (forms : Forms) (text : List ℕ) (ps : List Part) → Read forms text ps → Of forms (room (lines_of text)) ps
-of_text forms text ps e = of_items forms (room (lines_of text)) (items_from forms 1 (lines_of text)) ps (items_in forms 1 (lines_of text)) e
+of_text : (forms : Forms) (text : List ℕ) (ps : List Part) → Read forms text ps → Of forms ps
+of_text forms text ps e = of_items forms (items_from forms 1 (lines_of text)) ps (items_in forms 1 (lines_of text)) e
 
 pub parts_valid : (forms : Forms) (text : List ℕ) (ps : List Part) → Read forms text ps → is_valid_script (record { parts = ps }) ≡ true
 parts_valid forms text ps e =
@@ -102,13 +85,7 @@ parts_valid forms text ps e =
 
 pub parts_built : (text : List ℕ) (ps : List Part) → Read Built text ps → is_built_script (record { parts = ps }) ≡ true
 parts_built text ps e =
-    let o = of_text Built text ps e in subst (λ qs. list_all is_built_part qs ≡ true) o.same (built_after [] o.items refl o.happen.runs.yes)
-
-pub parts_few : (text : List ℕ) (ps : List Part) → Read Built text ps → 32 * length (lane_lines (record { parts = ps })) ≤ length text + 1
-unfolding lane_lines
-parts_few text ps e =
-    let o = of_text Built text ps e in
-    omega (arith, ap (λ qs. length (flat_map lines_in qs)) o.same, counted [] o.items o.happen.runs.yes, o.happen.runs.long, room-lines text)
+    let o = of_text Built text ps e in subst (λ qs. list_all is_built_part qs ≡ true) o.same (built_after [] o.items refl o.happen.runs)
 
 -- ---- of the script that a text spells
 
@@ -125,7 +102,3 @@ script_valid text script e = parts_valid Built text script.parts (read_of (items
 pub script_built : (text : List ℕ) (script : Script) → script_of text ≡ Ok script → is_built_script script ≡ true
 unfolding script_by
 script_built text script e = parts_built text script.parts (read_of (items_from Built 1 (lines_of text)) script e)
-
-pub script_few : (text : List ℕ) (script : Script) → script_of text ≡ Ok script → 32 * length (lane_lines script) ≤ length text + 1
-unfolding script_by
-script_few text script e = parts_few text script.parts (read_of (items_from Built 1 (lines_of text)) script e)

@@ -56,12 +56,12 @@ unlimited_name word path = by (bytes_eq (take 5 word) (codes "name=")) (bytes_eq
     by false true e f h = absurd (none_some path h)
 
 -- what the tests of a word may answer
-pub record Alone (vnet persist : Bool) (name : Option Path) (limit : Option ℕ) : Type 0 where
-  pub vnet_alone : vnet ≡ true → (persist ≡ false) × (name ≡ None) × (limit ≡ None)
-  pub persist_alone : persist ≡ true → (name ≡ None) × (limit ≡ None)
-  pub name_alone : (path : Path) → name ≡ Some path → limit ≡ None
+record Alone (vnet persist : Bool) (name : Option Path) (limit : Option ℕ) : Type 0 where
+  vnet_alone : vnet ≡ true → (persist ≡ false) × (name ≡ None) × (limit ≡ None)
+  persist_alone : persist ≡ true → (name ≡ None) × (limit ≡ None)
+  name_alone : (path : Path) → name ≡ Some path → limit ≡ None
 
-pub alone : (word : List ℕ) → Alone (bytes_eq word (codes "vnet")) (bytes_eq word (codes "persist")) (name_of word) (limit_of word)
+alone : (word : List ℕ) → Alone (bytes_eq word (codes "vnet")) (bytes_eq word (codes "persist")) (name_of word) (limit_of word)
 alone word = record {
   vnet_alone = λ e. (ap (λ w. bytes_eq w (codes "persist")) (same (codes "vnet") e), ap name_of (same (codes "vnet") e) ∙ valueless_vnet.0, ap limit_of (same (codes "vnet") e) ∙ valueless_vnet.1);
   persist_alone = λ e. (ap name_of (same (codes "persist") e) ∙ valueless_persist.0, ap limit_of (same (codes "persist") e) ∙ valueless_persist.1);
@@ -73,7 +73,7 @@ alone word = record {
 
 -- ---- counts
 
-abbrev pub once : Bool → ℕ
+abbrev once : Bool → ℕ
 once b = cond b 1 0
 
 -- the command, where words were counted
@@ -155,7 +155,7 @@ no_words true true (Some path) (Some n) = refl
 no_words true false name limit = refl
 no_words false p name limit = refl
 
-pub times-word : (text word : List ℕ) (words : List (List ℕ)) → times text (word ∷ words) ≡ once (bytes_eq word text) + times text words
+times-word : (text word : List ℕ) (words : List (List ℕ)) → times text (word ∷ words) ≡ once (bytes_eq word text) + times text words
 times-word text word words = sum_by-cons (λ other. once (bytes_eq other text)) word words
 
 command_after-is : (words : List (List ℕ)) (s : Settings)

@@ -1,6 +1,6 @@
 -- What a reader of scripts answers, and what a script has been read into.
 use Rattle.std.specs.Prelude.{◌≡◌, ℕ, Bool, true, false, List, [], ◌∷◌, ◌++◌, Option, Some, None, Result, Ok, Err}
-use Rattle.std.specs.List.{flat_map, list_all}
+use Rattle.std.specs.List.{list_all}
 use Rattle.vn_types.specs.Paths.{Path}
 use Rattle.vn_cells.specs.declared.command.Command.{Command}
 use Rattle.vn_cells.specs.declared.script.LaneLine.{LaneLine}
@@ -93,10 +93,6 @@ parts_in (Err e) = Err e
 abbrev pub lines_in : Part → List LaneLine
 lines_in (part.Phase lines) = lines
 lines_in _ = []
-
--- the lane lines of a script, in their order
-unfoldable pub lane_lines : Script → List LaneLine
-lane_lines script = flat_map lines_in script.parts
 
 -- whether the program runs a line
 abbrev pub is_built_lane : LaneLine → Bool

@@ -1,7 +1,7 @@
-ghost use Rattle.std.specs.Prelude.{◌≡◌, ◌+◌, ◌*◌, ◌≤◌, [], true, length, IfOk, IfErr, Ok};
+ghost use Rattle.std.specs.Prelude.{◌≡◌, [], true, IfOk, IfErr, Ok};
 ghost use Rattle.vn_cells.specs.machine.Events.{is_valid_script};
 ghost use Rattle.vn_shell.specs.Grammar.{items_from, line_of, script_by, script_of, whole_script_of};
-ghost use Rattle.vn_shell.specs.Readings.{Refuses, RefusesAt, IsPut, is_built_script, lane_lines, no_parts, parts_in};
+ghost use Rattle.vn_shell.specs.Readings.{Refuses, RefusesAt, IsPut, is_built_script, no_parts, parts_in};
 ghost use Rattle.vn_shell.specs.Words.{lines_of};
 ghost use Rattle.vn_shell.specs.declared.script.ScriptFault.TheVariants.{NoMemory as Lack};
 
@@ -56,8 +56,6 @@ pub fn read_script(alloc: Global, text: &[u8]) -> Result<Script, ScriptFault>
     ensures valid { IfOk result (λ s. is_valid_script s ≡ true) }
     // And the program runs them.
     ensures built { IfOk result (λ s. is_built_script s ≡ true) }
-    // A lane line has at least 31 octets beside its end.
-    ensures few { IfOk result (λ s. 32 * length (lane_lines s) ≤ length text.now + 1) }
 {
     read_by(alloc, Forms::Built, text)
 }

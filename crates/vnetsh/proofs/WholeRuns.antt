@@ -1,5 +1,5 @@
 -- The lines of a whole script can happen, and make the history of its run.
-use Rattle.std.proofs.Common.{◌≡◌, true, ℕ, ◌+◌, ◌≤◌, ◌++◌, List, [], ◌∷◌, length, refl, sym, ap, ap₂, subst, ◌∙◌, arith, true≢false}
+use Rattle.std.proofs.Common.{◌≡◌, true, ℕ, ◌+◌, ◌≤◌, ◌++◌, List, [], ◌∷◌, length, Err, refl, sym, ap, ap₂, subst, ◌∙◌, arith, true≢false}
 use Rattle.std.specs.List.{flat_map, list_all}
 use Rattle.std.proofs.lemmas.Bool.{and_parts, and_from}
 use Rattle.std.proofs.lemmas.List.Folds.{list_all-append}
@@ -17,8 +17,10 @@ use Rattle.vn_cells.specs.texts.Schedule.{line_events, lines_events, part_events
 use Rattle.vn_cells.specs.machine.Step.{opening, run_from}
 use Rattle.vn_cells.specs.machine.Events.{IsValid, is_built_line, is_valid_line, is_valid_part, is_valid_script}
 use Rattle.vn_kernel.specs.Machines.{Machine, opened}
-use Rattle.vn_shell.specs.Readings.{is_built_lane, is_built_part, is_built_script, lane_lines, lines_in}
-use Rattle.vnetsh.specs.Runs.{CanRunLines, can_run_line, command_events, events_of}
+use Rattle.vn_shell.specs.Readings.{is_built_lane, is_built_part, is_built_script, lines_in}
+use Rattle.vn_kernel.specs.declared.kernel.StepFault.{StepFault}
+use Rattle.vn_kernel.specs.declared.kernel.StepFault.TheVariants as fault
+use Rattle.vnetsh.specs.Runs.{CanRunLines, TellsFault, can_run_line, command_events, events_of}
 use Rattle.vnetsh.proofs.EventsOfLines.{lines_valid}
 use Rattle.vnetsh.proofs.Runs.{events-append}
 
@@ -47,12 +49,6 @@ parts_can (one ∷ parts) valid built =
 
 pub script_can : (script : Script) → is_valid_script script ≡ true → is_built_script script ≡ true → CanRunLines (flat_map lines_in script.parts)
 script_can script valid built = parts_can script.parts valid built
-
--- and a new kernel has room for them
-pub script_room : (script : Script) (kernel : Machine) → kernel ≡ opened → length (lane_lines script) ≤ EVENTS_MAX
-    → length kernel.events + length (flat_map lines_in script.parts) ≤ EVENTS_MAX
-unfolding lane_lines
-script_room script kernel is_new few = omega (arith, few, ap (λ (m : Machine). length m.events) is_new)
 
 -- a line that is built makes its command happen
 one_line : (w : World) (lane : ℕ) (path : Path) (l : Line) → is_built_line l ≡ true
@@ -90,6 +86,22 @@ pub script_run : (script : Script) (kernel : Machine) (events : List Event) → 
 script_run script kernel events built is_new done =
     done ∙ ap (λ (m : Machine). m.events ++ flat_map events_of (flat_map lines_in script.parts)) is_new
     ∙ sym (parts_run opening script.parts built)
+
+-- a new kernel has room
+pub new_room : (kernel : Machine) → kernel ≡ opened → length kernel.events ≤ EVENTS_MAX
+new_room kernel is_new = omega (arith, ap (λ (m : Machine). length m.events) is_new)
+
+-- after all parts a new kernel is too long, or not, where the run is
+pub script_tells : (script : Script) (kernel : Machine) (e : StepFault) → is_built_script script ≡ true → kernel ≡ opened
+    → TellsFault e (kernel.events ++ flat_map events_of (flat_map lines_in script.parts)) → TellsFault e (serial_run script)
+script_tells script kernel (fault.Long n) built is_new long =
+    omega (arith, long, ap length (script_run script kernel _ built is_new refl))
+script_tells script kernel fault.NoMemory built is_new long = tt
+
+-- and where it is not
+pub script_short : (script : Script) (kernel : Machine) → is_built_script script ≡ true → kernel ≡ opened
+    → length (kernel.events ++ flat_map events_of (flat_map lines_in script.parts)) ≤ EVENTS_MAX → length (serial_run script) ≤ EVENTS_MAX
+script_short script kernel built is_new short = omega (arith, short, ap length (script_run script kernel _ built is_new refl))
 
 -- the history of a script is valid
 pub serial_valid : (script : Script) → is_valid_script script ≡ true → is_built_script script ≡ true → IsValid (serial_run script)

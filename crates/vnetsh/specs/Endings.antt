@@ -9,18 +9,20 @@ use Rattle.vnetsh.specs.declared.status.Status.{Status}
 use Rattle.vnetsh.specs.declared.status.Status.TheVariants as status
 use Rattle.vnetsh.specs.Inputs.{input_max}
 use Rattle.vnetsh.specs.Lines.{status_code, status_line}
-use Rattle.vnetsh.specs.Outputs.{IsRunClean, IsRunIsolated, WritesPart, WritesRun}
+use Rattle.vnetsh.specs.Outputs.{IsRunClean, IsRunIsolated, IsRunLong, IsRunShort, WritesPart, WritesRun}
 
 -- what each status says of the input, and of the output before and after
 abbrev pub Says : Status → Option (List ℕ) → Option (List ℕ) → Option (List ℕ) → Type 0
-Says status.Done left old new = WritesRun left old new × IsRunIsolated left × IsRunClean left
+Says status.Done left old new =
+    WritesRun left old new × IsRunIsolated left × IsRunClean left × IsRunShort left
 Says status.Usage left old new = Keeps old new
 Says (status.Script number why) left old new =
     IfSome left (λ input. script_of input ≡ Err (number, why)) × Keeps old new
 Says status.ReadFault left old new = Keeps old new
-Says status.WriteFault left old new = WritesPart left old new
+Says status.WriteFault left old new = WritesPart left old new × IsRunShort left
 Says status.NoMemory left old new = Keeps old new
 Says status.TooLong left old new = IfSome left (λ input. input_max < length input) × Keeps old new
+Says status.Long left old new = IsRunLong left × Keeps old new
 
 -- a line was written whole; or a write failed after a part of it
 abbrev pub TellsLine : List ℕ → Adapter → Adapter → Type 0

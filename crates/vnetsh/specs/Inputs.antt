@@ -1,6 +1,8 @@
 -- What an input that is told is answered.
 use Rattle.std.specs.Prelude.{◌≡◌, ◌⊎◌, ℕ, nat_le, List, length, if◌then◌else◌, IfSome, Option, Result, Ok, Err}
+use Rattle.vn_cells.specs.declared.event.TheConstants.{EVENTS_MAX}
 use Rattle.vn_cells.specs.declared.script.Script.{Script as AnyScript}
+use Rattle.vn_cells.specs.texts.Schedule.{serial_run}
 use Rattle.vn_shell.specs.declared.script.Reason.{Reason}
 use Rattle.vn_shell.specs.Grammar.{script_of}
 use Rattle.vnetsh.specs.declared.status.Status.{Status}
@@ -12,7 +14,8 @@ input_max = 4194304
 
 -- the status of what an input means
 abbrev pub status_of_script : Result AnyScript (ℕ × Reason) → Status
-status_of_script (Ok script) = status.Done
+status_of_script (Ok script) =
+    if nat_le (length (serial_run script)) EVENTS_MAX then status.Done else status.Long
 status_of_script (Err refusal) = status.Script refusal.0 refusal.1
 
 -- the status where memory is found and neither a read nor a write fails

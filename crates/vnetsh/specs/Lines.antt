@@ -15,6 +15,7 @@ status_code status.ReadFault = 3
 status_code status.WriteFault = 4
 status_code status.NoMemory = 5
 status_code status.TooLong = 6
+status_code status.Long = 7
 
 -- the word for a reason
 abbrev pub reason_text : (why : Reason) → List ℕ
@@ -38,3 +39,4 @@ status_line status.ReadFault = line (codes "read fault")
 status_line status.WriteFault = line (codes "write fault")
 status_line status.NoMemory = line (codes "out of memory")
 status_line status.TooLong = line (codes "input too long")
+status_line status.Long = line (codes "too many events")

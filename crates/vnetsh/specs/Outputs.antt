@@ -1,6 +1,7 @@
 -- What the run leaves that an input spells, and what holds of its history, where octets are told.
-use Rattle.std.specs.Prelude.{ℕ, List, Option, IfOk, IfSome, IsOkAnd}
+use Rattle.std.specs.Prelude.{ℕ, ◌<◌, ◌≤◌, List, length, Option, IfOk, IfSome, IsOkAnd}
 use Rattle.std.specs.Io.KnownBytes.{Appends}
+use Rattle.vn_cells.specs.declared.event.TheConstants.{EVENTS_MAX}
 use Rattle.vn_cells.specs.keeping.Clean.{IsEachPrefixClean}
 use Rattle.vn_cells.specs.sets.Isolation.{IsIsolated}
 use Rattle.vn_cells.specs.texts.Schedule.{serial_run}
@@ -19,6 +20,16 @@ abbrev pub WritesPart : Option (List ℕ) → Option (List ℕ) → Option (List
 WritesPart left old new =
     IfSome left (λ input. IsOkAnd (script_of input) (λ script.
     AppendsPart old new (text (serial_run script))))
+
+-- that history has as many events as a history may have, or fewer
+abbrev pub IsRunShort : Option (List ℕ) → Type 0
+IsRunShort left =
+    IfSome left (λ input. IfOk (script_of input) (λ script. length (serial_run script) ≤ EVENTS_MAX))
+
+-- it has more
+abbrev pub IsRunLong : Option (List ℕ) → Type 0
+IsRunLong left =
+    IfSome left (λ input. IsOkAnd (script_of input) (λ script. EVENTS_MAX < length (serial_run script)))
 
 -- each cell of each set that is closed in that history is as in a run of the set's own events
 abbrev pub IsRunIsolated : Option (List ℕ) → Type 0

@@ -5,16 +5,17 @@ ghost use Rattle.vn_io.specs.Transfers.{ConsumesAtMost, ConsumesExactly};
 ghost use Rattle.vn_shell.specs.declared.script.Reason.{Reason as AnyReason};
 ghost use Rattle.vn_shell.specs.Grammar.{script_of};
 ghost use Rattle.vnetsh.specs.Inputs.{IsDecided, input_max};
-ghost use Rattle.vnetsh.specs.Outputs.{IsRunClean, IsRunIsolated, WritesPart, WritesRun};
+ghost use Rattle.vnetsh.specs.Outputs.{IsRunClean, IsRunIsolated, IsRunLong, IsRunShort, WritesPart, WritesRun};
 ghost use Rattle.vnetsh.specs.Words.{is_run};
 
 use crate::forms::is_run;
-use crate::run::output;
+use crate::run::run_text;
 use crate::status::Status;
 use std::alloc::Global;
 use vn_io::{ReadError, Sink, Source, read_to_end, write_all};
+use vn_kernel::StepFault;
 use vn_laws::{law_of_clean_histories, law_of_isolation};
-use vn_shell::ScriptFault;
+use vn_shell::{ScriptFault, read_script};
 
 /// The most octets of an input.
 const INPUT_MAX: usize = 4_194_304;
@@ -50,6 +51,10 @@ pub fn top<S: Source, K: Sink>(
         → result ≢ Status.NoMemory → IsAtEnd (S.left source.new) }
     ensures script { (number : ℕ) (reason : AnyReason) → result ≡ Status.Script number reason
         → IfSome (S.left source.old) (λ input. script_of input ≡ Err (number, reason)) }
+    // The run comes after a script that was read.
+    ensures long { result ≡ Status.Long → IsRunLong (S.left source.old) }
+    ensures short { result ≢ Status.Usage → result ≢ Status.ReadFault → result ≢ Status.TooLong
+        → result ≢ Status.NoMemory → result ≢ Status.Long → IsRunShort (S.left source.old) }
     ensures write_fault { result ≡ Status.WriteFault
         → RoseByOne (K.faults sink.old) (K.faults sink.new) }
     ensures writes_counted { result ≢ Status.WriteFault
@@ -103,6 +108,10 @@ pub fn serial<S: Source, K: Sink>(
         → result ≢ Status.NoMemory → IsAtEnd (S.left source.new) }
     ensures script { (number : ℕ) (reason : AnyReason) → result ≡ Status.Script number reason
         → IfSome (S.left source.old) (λ input. script_of input ≡ Err (number, reason)) }
+    // The run comes after a script that was read.
+    ensures long { result ≡ Status.Long → IsRunLong (S.left source.old) }
+    ensures short { result ≢ Status.Usage → result ≢ Status.ReadFault → result ≢ Status.TooLong
+        → result ≢ Status.NoMemory → result ≢ Status.Long → IsRunShort (S.left source.old) }
     ensures write_fault { result ≡ Status.WriteFault
         → RoseByOne (K.faults sink.old) (K.faults sink.new) }
     ensures writes_counted { result ≢ Status.WriteFault
@@ -132,12 +141,18 @@ pub fn serial<S: Source, K: Sink>(
         Err(ReadError::TooLong) => return Status::TooLong,
         Err(ReadError::NoMemory) => return Status::NoMemory,
     };
-    let output = match output(alloc, input) {
-        Ok(output) => output,
+    let script = match read_script(alloc, &input) {
+        Ok(script) => script,
         Err(ScriptFault::Script { line, reason }) => return Status::Script { line, reason },
         Err(ScriptFault::NoMemory) => return Status::NoMemory,
     };
-    match write_all(sink, &output) {
+    drop(input);
+    let text = match run_text(alloc, script) {
+        Ok(text) => text,
+        Err(StepFault::Long(_)) => return Status::Long,
+        Err(StepFault::NoMemory) => return Status::NoMemory,
+    };
+    match write_all(sink, &text) {
         Ok(()) => Status::Done,
         Err(_) => Status::WriteFault,
     }

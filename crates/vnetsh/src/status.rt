@@ -26,6 +26,8 @@ pub enum Status {
     NoMemory,
     /// The input has more than 4,194,304 octets.
     TooLong,
+    /// The run has more than 200,000 events.
+    Long,
 }
 
 impl Status {
@@ -41,6 +43,7 @@ impl Status {
             Status::WriteFault => 4,
             Status::NoMemory => 5,
             Status::TooLong => 6,
+            Status::Long => 7,
         }
     }
 
@@ -74,6 +77,7 @@ impl Status {
             Status::WriteFault => b"write fault\n",
             Status::NoMemory => b"out of memory\n",
             Status::TooLong => b"input too long\n",
+            Status::Long => b"too many events\n",
         };
         [text, empty, empty, empty, empty]
     }

@@ -82,7 +82,7 @@ fn calm(alloc: Global, words: &[&str], text: &str) -> Result<(ExitCode, Vec<u8>,
 #[test]
 fn runs_are_written(rt: HostRuntime) -> Result<(), Fail> {
     let alloc = rt.alloc();
-    let rows: [(&str, &str, &[&str]); 3] = [
+    let rows: [(&str, &str, &[&str]); 4] = [
         (
             "empty_script",
             "",
@@ -112,6 +112,28 @@ fn runs_are_written(rt: HostRuntime) -> Result<(), Fail> {
                 "cmd 1 host jail -c name=a.b vnet persist\n",
                 "cmd 1 host jail -c name=a vnet persist\n",
                 "cmd 8 host jail -c name=a.b vnet persist\n",
+                "== end\n",
+            ],
+        ),
+        (
+            "room_for_one",
+            "1 host jail -c name=a children.max=1 vnet persist
+1 a jail -c name=b vnet persist
+1 a jail -c name=c vnet persist",
+            &[
+                "== host\n",
+                CONSTRUCTORS,
+                "0 1 jail -c name=a vnet persist children.max=1 = ok\n",
+                "== a\n",
+                CONSTRUCTORS,
+                "0 1 jail -c name=b vnet persist = ok\n",
+                "0 1 jail -c name=c vnet persist = EPERM 1\n",
+                "== a.b\n",
+                CONSTRUCTORS,
+                "== pool open 0 kept 0\n== history 1\n",
+                "cmd 1 host jail -c name=a vnet persist children.max=1\n",
+                "cmd 1 a jail -c name=b vnet persist\n",
+                "cmd 1 a jail -c name=c vnet persist\n",
                 "== end\n",
             ],
         ),
