@@ -1,7 +1,0 @@
-use Rattle.std.proofs.Common.{arith}
-use Rattle.vn_table_tests.proofs.Unarmed.{unarmed-gone}
-use Rattle.vn_table_tests.proofs.arp.Stack.purge_interface.Goals as goal
-
-pub invariant_of-self : goal.invariant_of-self
-invariant_of-self c =
-    (c.purge_interface.ensures.knows, omega (arith, unarmed-gone _ _ _ _ _ c.purge_interface.ensures.purged, c.self.invariant.1))
