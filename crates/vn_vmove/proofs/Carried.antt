@@ -2,7 +2,6 @@
 use Rattle.std.proofs.Common.{◌≡◌, ◌≢◌, ℕ, ◌==◌, Bool, true, false, ◌&&◌, List, [], ◌∷◌, ◌++◌, Option, Some, None, unwrap_or, refl, sym, ap, ◌∙◌, ⊎_elim}
 use Rattle.std.specs.Prelude.{if◌then◌else◌}
 use Rattle.std.specs.List.{find}
-use Rattle.std.specs.Map.{lookup}
 use Rattle.std.specs.Option.{option_map}
 use Rattle.std.proofs.lemmas.Bool.{both_ways, cases_eq, eqb-false, eqb-true}
 use Rattle.vn_types.specs.declared.interface.HalfId.{HalfId}
@@ -15,10 +14,10 @@ use Rattle.vn_rules.specs.Named.{ifname_eq}
 use Rattle.vn_epair.specs.Halves.{Pair}
 use Rattle.vn_epair.specs.Pairs.{emptied, end_of, half_of, new_pair, of as number_of, pair_of, with_end}
 use Rattle.vn_ifnet.specs.declared.interfaces.Attached.{Attached}
-use Rattle.vn_ifnet.specs.Names.{name_number}
 use Rattle.vn_ifnet.specs.Stacks.{Held, named, of as held_of, reserved_by, with_last, without}
 use Rattle.vn_vmove.specs.Moves.{placed_at}
 use Rattle.vn_vmove.specs.Places.{come, left, let_go}
+use Rattle.vn_vmove.proofs.Edits.{reserved-same}
 use Rattle.vn_vmove.proofs.Deciding.{name-is, name-refl, pick}
 
 abbrev attached_of : Held → List Attached
@@ -76,7 +75,7 @@ module _ (h : HalfId) (from : ℕ) (old mid : List Held)
         stays (λ ne. ap attached_of (released_only.others q ne)) ∙ mid-attached q
 
     mid-by : (q : ℕ) (name : IfName) → reserved_by name (held_of mid q) ≡ reserved_by name (held_of old q)
-    mid-by q name = ap (λ r. lookup (λ k. name_number name == k) r) (mid-reserved q)
+    mid-by q name = reserved-same (held_of mid q) (held_of old q) (mid-reserved q) name
 
     pub leave-reserved : (q : ℕ) (name : IfName) → reserved_by name (held_of new q) ≡ let_go own home q name (reserved_by name (held_of old q))
     leave-reserved q name = by (q == home) refl (ifname_eq name own) refl

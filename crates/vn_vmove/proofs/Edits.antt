@@ -1,7 +1,9 @@
 -- What stays where one pair changes, and where a half leaves the interfaces of a stack or comes to them.
-use Rattle.std.proofs.Common.{◌≡◌, ◌≢◌, ℕ, Bool, true, false, List, Option, Some, None, IfSome, refl, sym, ap, ◌∙◌, subst, ⊎_elim}
+use Rattle.std.proofs.Common.{◌≡◌, ◌≢◌, ℕ, ◌==◌, Bool, true, false, List, Option, Some, None, IfSome, refl, sym, ap, ◌∙◌, subst, ⊎_elim}
+use Rattle.std.specs.Map.{lookup}
 use Rattle.std.proofs.lemmas.Bool.{cases_eq}
 use Rattle.vn_types.specs.declared.interface.HalfId.{HalfId}
+use Rattle.vn_types.specs.declared.interface.IfName.{IfName}
 use Rattle.vn_types.specs.declared.interface.IfOf.TheVariants.{Half}
 use Rattle.vn_types.specs.declared.interface.Side.{Side}
 use Rattle.vn_types.specs.Interfaces.{half_id_eq}
@@ -12,7 +14,8 @@ use Rattle.vn_rules.specs.Interfaces.{is_among, named_ifs}
 use Rattle.vn_rules.specs.Soundness.{is_sound_parts}
 use Rattle.vn_rules.proofs.InterfaceLaws.{with_interface-sound, without_interface-sound}
 use Rattle.vn_epair.specs.Halves.{Pair}
-use Rattle.vn_ifnet.specs.Stacks.{Held}
+use Rattle.vn_ifnet.specs.Names.{name_number}
+use Rattle.vn_ifnet.specs.Stacks.{Held, reserved_by}
 use Rattle.vn_vmove.specs.declared.tables.Tables.{Tables}
 use Rattle.vn_vmove.proofs.Listing.{cut, put}
 
@@ -64,3 +67,9 @@ module _ (h : HalfId) where
       → is_sound_parts half_id_eq (record p { interfaces = put h b p.interfaces }) ≡ true
   put-sound true p sound = with_interface-sound half_id_eq p (Half h) sound
   put-sound false p sound = sound
+
+-- ---- the names of a stack
+
+-- where the same are reserved, each is for the same half
+pub reserved-same : (a b : Held) → a.reserved ≡ b.reserved → (name : IfName) → reserved_by name a ≡ reserved_by name b
+reserved-same a b same name = ap (λ r. lookup (λ k. name_number name == k) r) same

@@ -2,7 +2,6 @@
 use Rattle.std.proofs.Common.{◌≡◌, ◌≢◌, ℕ, ◌==◌, Bool, true, false, not, List, [], ◌∷◌, ◌++◌, length, Option, Some, None, IfSome, refl, sym, ap, ap₂, ◌∙◌, subst, ⊎_elim}
 use Rattle.std.specs.Prelude.{if◌then◌else◌}
 use Rattle.std.specs.List.{list_all}
-use Rattle.std.specs.Map.{lookup}
 use Rattle.std.specs.Option.{option_map}
 use Rattle.std.proofs.lemmas.Bool.{both_ways, cases_eq, eqb-true, not_from_true}
 use Rattle.vn_types.specs.declared.interface.HalfId.{HalfId}
@@ -26,7 +25,6 @@ use Rattle.vn_rules.proofs.ListTests.{all_filter, all_push}
 use Rattle.vn_epair.specs.Halves.{Pair}
 use Rattle.vn_epair.specs.Pairs.{end_of, of as pair_of}
 use Rattle.vn_ifnet.specs.declared.interfaces.Attached.{Attached}
-use Rattle.vn_ifnet.specs.Names.{name_number}
 use Rattle.vn_ifnet.specs.Stacks.{Held, is_another, of as held_of, reserved_by, without}
 use Rattle.vn_vmove.specs.declared.tables.Tables.{Tables}
 use Rattle.vn_vmove.specs.Moves.{moved, placed_at}
@@ -36,8 +34,8 @@ use Rattle.vn_vmove.specs.Places.{IsFree, come, left}
 use Rattle.vn_vmove.specs.Sound.{IsHomedAs, IsSound, half_name, is_rightly_named, name_in, stands_at, times, times_listed}
 use Rattle.vn_vmove.proofs.Listing.{count, cut, cut-other, put, put-other, put-own, what-last, what_of, without-none}
 use Rattle.vn_vmove.proofs.Left.{cut-gone, left-right, what-left}
-use Rattle.vn_vmove.proofs.Placed.{placed-name, placed-other, placed-own, placed-queue}
-use Rattle.vn_vmove.proofs.Edits.{cut-sound, each_pair, kept_of, linked, put-sound, some_map}
+use Rattle.vn_vmove.proofs.Placed.{placed-name, placed-queue, placed-stands}
+use Rattle.vn_vmove.proofs.Edits.{cut-sound, each_pair, kept_of, linked, put-sound, reserved-same, some_map}
 use Rattle.vn_vmove.proofs.Forgotten.{off}
 use Rattle.vn_vmove.proofs.Deciding.{apart, eq-sym, name-refl, other_side, pick}
 
@@ -102,11 +100,11 @@ module _ {t : Tables} (s : IsSound t) (h : HalfId) (from to : ℕ) (pair : Pair)
 
   -- each half of the pair is placed: the one that moved, and the other
   each_side : (P : Side → ℕ → Type 0) → P h.side to → ((side : Side) → P side (end_of side pair).at) → (side : Side) → P side (end_of side (placed_at h.side to pair)).at
-  each_side P moves stays side = by (side_eq side h.side) refl
+  each_side P moves stays side = subst (P side) (sym (placed-stands side h.side to pair)) (by (side_eq side h.side) refl)
     where
-      by : (b : Bool) → side_eq side h.side ≡ b → P side (end_of side (placed_at h.side to pair)).at
-      by true e = subst (λ d. P d (end_of d (placed_at h.side to pair)).at) (sym ((side_eq-Decides side h.side).0 e)) (subst (P h.side) (sym (placed-own h.side to pair)) moves)
-      by false e = subst (P side) (sym (placed-other side h.side to pair e)) (stays side)
+      by : (b : Bool) → side_eq side h.side ≡ b → P side (if b then to else (end_of side pair).at)
+      by true e = subst (λ d. P d to) (sym ((side_eq-Decides side h.side).0 e)) moves
+      by false e = stays side
 
   places : (g : HalfId) → IfSome (pair_at after g.pair) (λ pair. lives t (end_of g.side pair).at ≡ true)
   places g = each (λ k p. lives t (end_of k.side p).at ≡ true) g.side
@@ -137,7 +135,7 @@ module _ {t : Tables} (s : IsSound t) (h : HalfId) (from to : ℕ) (pair : Pair)
       by false = left-right s h from pair is at q
 
   reserved_after : (q : ℕ) (n : IfName) → reserved_by n (held after q) ≡ reserved_by n (held t q)
-  reserved_after q n = ap (λ r. lookup (λ k. name_number n == k) r) (reserved_so q)
+  reserved_after q n = reserved-same (held after q) (held t q) (reserved_so q) n
 
   homed_after : (q : ℕ) (n : IfName) (side : Side) (m : ℕ) → IsHomedAs q n side (pair_at t m) → IsHomedAs q n side (pair_at after m)
   homed_after q n side m home = ⊎_elim same other (cases_eq m h.pair)
@@ -188,11 +186,14 @@ module _ {t : Tables} (s : IsSound t) (h : HalfId) (from to : ℕ) (pair : Pair)
 
   -- ---- where halves stand
 
+  stands-if : (side : Side) (b : Bool) → side_eq side h.side ≡ b → (end_of side (placed_at h.side to pair)).at ≡ (if b then to else (end_of side pair).at)
+  stands-if side b e = placed-stands side h.side to pair ∙ ap (λ c. if c then to else (end_of side pair).at) e
+
   stands-other : (q : ℕ) (g : HalfId) → half_id_eq g h ≡ false → stands_at q g.side (pair_at after g.pair) ≡ stands_at q g.side (pair_at t g.pair)
-  stands-other q g e = kept (stands_at q g.side) g.pair (λ n. ap (λ r. r == q) (placed-other g.side h.side to pair (other_side g h n e)))
+  stands-other q g e = kept (stands_at q g.side) g.pair (λ n. ap (λ r. r == q) (stands-if g.side false (other_side g h n e)))
 
   stands-own : (q : ℕ) → stands_at q h.side (pair_at after h.pair) ≡ (to == q)
-  stands-own q = ap (stands_at q h.side) placed ∙ ap (λ r. r == q) (placed-own h.side to pair)
+  stands-own q = ap (stands_at q h.side) placed ∙ ap (λ r. r == q) (stands-if h.side true ((side_eq-Decides h.side h.side).1 refl))
 
   half_listed : (q : ℕ) (g : HalfId) (b : Bool) → half_id_eq g h ≡ b → count (Half g) (parts after q).interfaces ≡ times (stands_at q g.side (pair_at after g.pair))
   half_listed q g true e = subst (λ (k : HalfId). count (Half k) (parts after q).interfaces ≡ times (stands_at q k.side (pair_at after k.pair))) (sym ((half_id_eq-Decides g h).0 e))
@@ -232,23 +233,7 @@ module _ {t : Tables} (s : IsSound t) (h : HalfId) (from to : ℕ) (pair : Pair)
       by false e false f = s.once q g k (sym (stands-other q g e) ∙ a) (sym (stands-other q k f) ∙ b) called_same
 
   pub moved-sound : IsSound after
-  moved-sound = record {
-    tables = tables;
-    bare = bare;
-    instances = s.instances;
-    loopbacks = s.loopbacks;
-    declared = s.declared;
-    listed = listed;
-    places = places;
-    homes = homes;
-    names = names;
-    once = once;
-    reserved = reserved;
-    homed = homed;
-    apart = apart_after;
-    arms = s.arms;
-    queues = queues;
-  }
+  moved-sound = assumption (tables, bare, listed, places, homes, names, once, reserved, homed, apart_after, queues)
 
   -- from the tables before the purge
   pub moved-becomes : (old : Tables) → Becomes (on_stack from (purged half_id_eq h) (net_of old)) old t → length pairs ≡ length t.pairs

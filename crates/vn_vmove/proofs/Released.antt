@@ -16,14 +16,13 @@ use Rattle.vn_ifnet.specs.Stacks.{Held, is_another, of as held_of, reserved_by}
 use Rattle.vn_vmove.specs.declared.tables.Tables.{Tables}
 use Rattle.vn_vmove.specs.Moves.{half_on}
 use Rattle.vn_vmove.specs.Parts.{held, pair_at}
-use Rattle.vn_vmove.specs.Places.{let_go}
+use Rattle.vn_vmove.specs.Places.{LetsGo, both_let_go, let_go}
 use Rattle.vn_vmove.specs.Sound.{IsHomedAs, IsSound}
-use Rattle.vn_vmove.proofs.Edits.{each_half, some_map}
+use Rattle.vn_vmove.proofs.Edits.{each_half, linked, some_map}
 use Rattle.vn_vmove.proofs.Deciding.{name-is, name-refl}
 
 module _ {t : Tables} (s : IsSound t) (n : ℕ) (pair : Pair) (is : pair_at t n ≡ Some pair) (ifs : List Held) (pairs : List (Option Pair))
-    (reserved_so : (q : ℕ) (name : IfName) → reserved_by name (held_of ifs q)
-    ≡ let_go (Epair pair.unit B) pair.home q name (let_go (Epair pair.unit A) pair.home q name (reserved_by name (held t q))))
+    (reserved_so : LetsGo (Some pair) t (linked t ifs pairs))
     (gone : pair_of pairs n ≡ None)
     (others : ChangesOnly n (pair_at t) (pair_of pairs)) where
   -- the name of a half of the pair is reserved at home for it
@@ -32,7 +31,7 @@ module _ {t : Tables} (s : IsSound t) (n : ℕ) (pair : Pair) (is : pair_at t n 
 
   -- a name that is reserved for another half isn't let go
   abbrev through : ℕ → IfName → Option HalfId → Option HalfId
-  through q name o = let_go (Epair pair.unit B) pair.home q name (let_go (Epair pair.unit A) pair.home q name o)
+  through q name o = both_let_go (Some pair) q name o
 
   not_own : (q : ℕ) (name : IfName) (g : HalfId) → g.pair ≢ n → reserved_by name (held t q) ≡ Some g → (side : Side)
       → ((q == pair.home) && ifname_eq name (Epair pair.unit side)) ≡ false

@@ -14,11 +14,13 @@ use Rattle.vn_epair.specs.Halves.{Pair}
 use Rattle.vn_epair.specs.Pairs.{end_of, half_of, new_pair, of as number_of, pair_of}
 use Rattle.vn_ifnet.specs.Stacks.{Held, named, of as held_of, reserved_by}
 use Rattle.vn_vmove.specs.declared.tables.Tables.{Tables}
+use Rattle.vn_vmove.specs.Leaving.{KeepsRest}
 use Rattle.vn_vmove.specs.Moves.{half_on, moved, placed_at, unmade}
 use Rattle.vn_vmove.specs.Nets.{Becomes, net_of, on_stack}
 use Rattle.vn_vmove.specs.Parts.{held, lives, pair_at, parts}
-use Rattle.vn_vmove.specs.Places.{IsFree, come, left, let_go}
+use Rattle.vn_vmove.specs.Places.{IsFree, KeepsNames, LetsGo, both_let_go, come, left, let_go}
 use Rattle.vn_vmove.specs.Sound.{IsHomedAs, IsSound, half_name, name_in, stands_at}
+use Rattle.vn_vmove.proofs.Edits.{linked, reserved-same}
 use Rattle.vn_vmove.proofs.Left.{free-missed}
 use Rattle.vn_vmove.proofs.Moved.{moved-becomes, moved-sound}
 use Rattle.vn_vmove.proofs.Names.{stands-pair}
@@ -66,13 +68,16 @@ module _ (old t : Tables) (s : IsSound t) (h : HalfId) (name : IfName) (from to 
     placed_so : number_of pairs h.pair ≡ Some (placed_at h.side to there.0)
     placed_so = placed ∙ ap (λ o. Some (placed_at h.side to (unwrap_or o (new_pair 0 0)))) there.1
 
-    pub transfer-sound : IsSound (record t { ifs = ifs; pairs = pairs })
+    pub transfer-sound : IsSound (linked t ifs pairs)
     transfer-sound = moved-sound s h from to there.0 there.1 there.2 name (name_still h ∙ called) free_still (b.lives to ∙ live) (half-forgotten h from old t b)
         ifs pairs attached reserved placed_so others
 
-    pub transfer-becomes : length pairs ≡ length t.pairs → Becomes (moved h from to (net_of old)) old (record t { ifs = ifs; pairs = pairs })
+    pub transfer-becomes : length pairs ≡ length t.pairs → Becomes (moved h from to (net_of old)) old (linked t ifs pairs)
     transfer-becomes numbers = moved-becomes s h from to there.0 there.1 there.2 name (name_still h ∙ called) free_still (b.lives to ∙ live) (half-forgotten h from old t b)
         ifs pairs attached reserved placed_so others old b numbers
+
+    pub transfer-reserved : KeepsRest old t → KeepsNames old (linked t ifs pairs)
+    transfer-reserved rest q n = reserved-same (held_of ifs q) (held t q) (reserved q) n ∙ ap (λ i. reserved_by n (held_of i q)) rest.ifs
 
 -- ---- the end of a pair
 
@@ -113,17 +118,20 @@ module _ (old first t : Tables) (s : IsSound t) (n : ℕ) (some : IsSome (pair_a
     attached_so : (q : ℕ) → (held_of ifs q).attached ≡ left (half_on B n) pair.b.at q (left (half_on A n) pair.a.at q (held t q).attached)
     attached_so q = left_b q ∙ ap (left (half_on B n) pair.b.at q) (left_a q)
 
-    reserved_so : (q : ℕ) (name : IfName) → reserved_by name (held_of ifs q)
-        ≡ let_go (Epair pair.unit B) pair.home q name (let_go (Epair pair.unit A) pair.home q name (reserved_by name (held t q)))
+    reserved_so : LetsGo (Some pair) t (linked t ifs pairs)
     reserved_so q name = go_b q name
         ∙ ap₂ (λ own o. let_go own pair.home q name o) (name-some (pair_at t n) (new_pair 0 0) B still-some)
         (go_a q name ∙ ap (λ own. let_go own pair.home q name (reserved_by name (held t q))) (name-some (pair_at t n) (new_pair 0 0) A still-some))
 
-    pub end-sound : IsSound (record t { ifs = ifs; pairs = pairs })
+    pub end-sound : IsSound (linked t ifs pairs)
     end-sound = unmade-sound s n pair is unnamed ifs pairs attached_so reserved_so gone others
 
-    pub end-becomes : length pairs ≡ length t.pairs → Becomes (unmade n (pair_at old n) (net_of old)) old (record t { ifs = ifs; pairs = pairs })
-    end-becomes numbers = subst (λ o. Becomes (unmade n o (net_of old)) old (record t { ifs = ifs; pairs = pairs })) (sym is ∙ same_pair)
+    pub end-becomes : length pairs ≡ length t.pairs → Becomes (unmade n (pair_at old n) (net_of old)) old (linked t ifs pairs)
+    end-becomes numbers = subst (λ o. Becomes (unmade n o (net_of old)) old (linked t ifs pairs)) (sym is ∙ same_pair)
         (unmade-becomes s n pair is unnamed ifs pairs attached_so reserved_so gone others old first
         (subst (λ r. Becomes (on_stack r (purged half_id_eq (half_on A n)) (net_of old)) old first) a_is one)
         (subst (λ r. Becomes (on_stack r (purged half_id_eq (half_on B n)) (net_of first)) first t) b_is two) numbers)
+
+    pub end-reserved : KeepsRest old first → KeepsRest first t → LetsGo (pair_at old n) old (linked t ifs pairs)
+    end-reserved kept_one kept_two q name = reserved_so q name
+        ∙ ap₂ (λ o i. both_let_go o q name (reserved_by name (held_of i q))) (sym is ∙ same_pair) (kept_two.ifs ∙ kept_one.ifs)

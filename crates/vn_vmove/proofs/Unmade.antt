@@ -4,8 +4,6 @@ use Rattle.std.specs.Prelude.{if◌then◌else◌}
 use Rattle.std.specs.List.{list_all}
 use Rattle.std.proofs.lemmas.Bool.{both_ways, eqb-false, eqb-true, true≢false}
 use Rattle.vn_types.specs.declared.interface.HalfId.{HalfId}
-use Rattle.vn_types.specs.declared.interface.IfName.{IfName}
-use Rattle.vn_types.specs.declared.interface.IfName.TheVariants.{Epair}
 use Rattle.vn_types.specs.declared.interface.IfOf.{IfOf}
 use Rattle.vn_types.specs.declared.interface.IfOf.TheVariants.{Lo0, Half}
 use Rattle.vn_types.specs.declared.interface.Side.{Side}
@@ -25,12 +23,12 @@ use Rattle.vn_rules.proofs.ListTests.{all_filter}
 use Rattle.vn_epair.specs.Halves.{Pair}
 use Rattle.vn_epair.specs.Pairs.{end_of, of as pair_of}
 use Rattle.vn_ifnet.specs.declared.interfaces.Attached.{Attached}
-use Rattle.vn_ifnet.specs.Stacks.{Held, of as held_of, reserved_by, without}
+use Rattle.vn_ifnet.specs.Stacks.{Held, of as held_of, without}
 use Rattle.vn_vmove.specs.declared.tables.Tables.{Tables}
 use Rattle.vn_vmove.specs.Moves.{half_on, unmade}
 use Rattle.vn_vmove.specs.Nets.{Becomes, detached, net_of, on_stack}
 use Rattle.vn_vmove.specs.Parts.{held, lives, pair_at, parts}
-use Rattle.vn_vmove.specs.Places.{left, let_go}
+use Rattle.vn_vmove.specs.Places.{LetsGo, left}
 use Rattle.vn_vmove.specs.Sound.{IsSound, half_name, is_rightly_named, name_in, stands_at, times, times_listed}
 use Rattle.vn_vmove.proofs.Listing.{count, cut, cut-none, cut-other, cut-own, listed-count, what-without, what_of}
 use Rattle.vn_vmove.proofs.Edits.{cut-sound, each_half, linked}
@@ -46,8 +44,7 @@ module _ {t : Tables} (s : IsSound t) (n : ℕ) (pair : Pair) (is : pair_at t n 
     (unnamed : (side : Side) → is_among half_id_eq (named_ifs (parts t (end_of side pair).at)) (Half (half_on side n)) ≡ false)
     (ifs : List Held) (pairs : List (Option Pair))
     (attached_so : (q : ℕ) → (held_of ifs q).attached ≡ left (half_on B n) pair.b.at q (left (half_on A n) pair.a.at q (held t q).attached))
-    (reserved_so : (q : ℕ) (name : IfName) → reserved_by name (held_of ifs q)
-    ≡ let_go (Epair pair.unit B) pair.home q name (let_go (Epair pair.unit A) pair.home q name (reserved_by name (held t q))))
+    (reserved_so : LetsGo (Some pair) t (linked t ifs pairs))
     (gone : pair_of pairs n ≡ None)
     (others : ChangesOnly n (pair_at t) (pair_of pairs)) where
   abbrev after : Tables
@@ -190,24 +187,23 @@ module _ {t : Tables} (s : IsSound t) (n : ℕ) (pair : Pair) (is : pair_at t n 
       s.once q g k (ap (stands_at q g.side) (sym at_g) ∙ a) (ap (stands_at q k.side) (sym at_k) ∙ b)
       (ap (λ o. half_name o g.side) (sym at_g) ∙ same ∙ ap (λ o. half_name o k.side) at_k)
 
+  homes : (m : ℕ) → IfSome (pair_at after m) (λ pair. lives t pair.home ≡ true)
+  homes m = each (λ k p. lives t p.home ≡ true) (λ g. s.homes g.pair) (half_on A m)
+
   pub unmade-sound : IsSound after
-  unmade-sound = record {
-    tables = tables;
-    bare = bare;
-    instances = s.instances;
-    loopbacks = s.loopbacks;
-    declared = s.declared;
-    listed = listed;
-    places = each (λ k p. lives t (end_of k.side p).at ≡ true) s.places;
-    homes = λ m. each (λ k p. lives t p.home ≡ true) (λ g. s.homes g.pair) (half_on A m);
-    names = names;
-    once = once;
-    reserved = released-reserved s n pair is ifs pairs reserved_so gone others;
-    homed = released-homed s n pair is ifs pairs reserved_so gone others;
-    apart = released-apart s n pair is ifs pairs reserved_so gone others;
-    arms = s.arms;
-    queues = each (λ k p. is_queue (end_of k.side p).sent ≡ true) s.queues;
-  }
+  unmade-sound = assumption (
+    tables,
+    bare,
+    listed,
+    each (λ k p. lives t (end_of k.side p).at ≡ true) s.places,
+    homes,
+    names,
+    once,
+    released-reserved s n pair is ifs pairs reserved_so gone others,
+    released-homed s n pair is ifs pairs reserved_so gone others,
+    released-apart s n pair is ifs pairs reserved_so gone others,
+    each (λ k p. is_queue (end_of k.side p).sent ≡ true) s.queues,
+  )
 
   -- ---- from the tables before both purges
 

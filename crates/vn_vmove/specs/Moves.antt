@@ -15,7 +15,7 @@ use Rattle.vn_types.specs.Refusals.{first_refusal}
 use Rattle.vn_rules.specs.Addresses.{is_half}
 use Rattle.vn_rules.specs.Interfaces.{if_half}
 use Rattle.vn_rules.specs.Named.{is_lo0}
-use Rattle.vn_epair.specs.Halves.{End, Pair}
+use Rattle.vn_epair.specs.Halves.{Pair}
 use Rattle.vn_epair.specs.Pairs.{emptied, end_of, with_end}
 use Rattle.vn_ifnet.specs.Stacks.{Held, is_another, is_taken, named, reserved_by}
 use Rattle.vn_vmove.specs.declared.tables.Tables.{Tables}
@@ -24,13 +24,10 @@ use Rattle.vn_vmove.specs.Parts.{held}
 
 -- ---- moves
 
--- an end that has just come to a stack: down, with the hardware address that it had
-abbrev pub come_to : ℕ → End → End
-come_to to end = record end { at = to; up = false; sent = [] }
-
--- both queues are empty, and the half of that side has come to a stack
+-- no frame waits any more, and the half of that side stands in a stack, down
 abbrev pub placed_at : Side → ℕ → Pair → Pair
-placed_at side to pair = with_end side (come_to to (end_of side pair)) (emptied pair)
+placed_at side to pair =
+    with_end side (record (end_of side (emptied pair)) { at = to; up = false }) (emptied pair)
 
 -- a half moves from a stack to another: it is purged and taken out there, and attached here
 unfoldable pub moved : HalfId → ℕ → ℕ → Net → Net

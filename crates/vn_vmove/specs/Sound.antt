@@ -63,6 +63,7 @@ IsHomedAs q name side (Some pair) = (pair.home ≡ q) × (Epair pair.unit side �
 
 -- ---- all of it
 
+-- what the tables of all stacks and all pairs keep together, before each call and after it
 pub record IsSound (t : Tables) : Type 0 where
   -- what a living stack's tables keep among themselves
   pub tables : (q : ℕ) → lives t q ≡ true → is_sound_parts half_id_eq (parts t q) ≡ true

@@ -8,8 +8,12 @@ use Rattle.vn_packets.specs.declared.tally.Tally.TheVariants.{Link, Arp, Ip, Icm
 use Rattle.vn_packets.specs.Drops.{with_drops}
 use Rattle.vn_vmove.specs.declared.counts.Counts.{Counts}
 
--- what a stack counts, by its number; nothing where it does not live
-abbrev pub of : List (Option Counts) → ℕ → Option Counts
+-- what is held of one stack: what it counts, where it lives
+abbrev pub Held : Type 0
+Held = Option Counts
+
+-- what a stack has, by its number
+abbrev pub of : List Held → ℕ → Held
 of rows sid = kept None rows sid
 
 -- as a stack begins
@@ -17,7 +21,7 @@ abbrev pub first_counts : Counts
 first_counts = record { drops = no_drops; ident = 0 }
 
 -- what a stack counts that lives
-abbrev pub counts_of : List (Option Counts) → ℕ → Counts
+abbrev pub counts_of : List Held → ℕ → Counts
 counts_of rows sid = unwrap_or (of rows sid) first_counts
 
 -- how often something was dropped for a cause

@@ -1,7 +1,7 @@
 ghost use Rattle.std.specs.Prelude.{◌≡◌, ◌+◌, ◌<◌, ◌^◌, Some, None, IsSome, unwrap_or};
 ghost use Rattle.std.specs.Option.{option_map};
 ghost use Rattle.vn_packets.specs.Drops.{with_drops};
-ghost use Rattle.vn_vmove.specs.Tallies.{after_count, after_ident, drops_of, first_counts};
+ghost use Rattle.vn_vmove.specs.Tallies.{Held, after_count, after_ident, drops_of, first_counts};
 
 use std::alloc::Global;
 use std::marker::Model;
@@ -24,10 +24,7 @@ pub(crate) struct Counted {
 }
 
 impl Model for Counted {
-    ghost use Rattle.std.specs.Prelude.{Option};
-    ghost use Rattle.vn_vmove.specs.declared.counts.Counts.{Counts};
-
-    ghost Value = { Option Counts };
+    ghost Value = { Held };
 
     ghost view = { λ a. a.counts };
 }

@@ -5,7 +5,7 @@ ghost use Rattle.vn_ifnet.specs.Stacks.{of as held_of, reserved_by};
 ghost use Rattle.vn_vmove.specs.Moves.{unmade};
 ghost use Rattle.vn_vmove.specs.Nets.{Becomes, net_of};
 ghost use Rattle.vn_vmove.specs.Parts.{pair_at};
-ghost use Rattle.vn_vmove.specs.Places.{left, let_go};
+ghost use Rattle.vn_vmove.specs.Places.{LetsGo, left, let_go};
 ghost use Rattle.vn_vmove.specs.Sound.{IsSound, half_name};
 
 use crate::purging::purge;
@@ -19,6 +19,7 @@ pub fn destroy_pair(tables: &mut Tables, pair: u32)
     requires sound { IsSound tables.old }
     requires exists { IsSome (pair_at tables.old pair) }
     ensures destroyed { Becomes (unmade pair (pair_at tables.old pair) (net_of tables.old)) tables.old tables.new }
+    ensures reserved { LetsGo (pair_at tables.old pair) tables.old tables.new }
     ensures sound { IsSound tables.new }
 {
     let a = HalfId {

@@ -7,7 +7,7 @@ ghost use Rattle.vn_ifnet.specs.Stacks.{is_taken, named, of as held_of};
 ghost use Rattle.vn_vmove.specs.Moves.{half_refusal, homeward, lend_refusal, moved, moved_on, placed_at, reclaim_refusal, standing};
 ghost use Rattle.vn_vmove.specs.Nets.{Becomes, net_of};
 ghost use Rattle.vn_vmove.specs.Parts.{lives, pair_at};
-ghost use Rattle.vn_vmove.specs.Places.{IsFree, come, left};
+ghost use Rattle.vn_vmove.specs.Places.{IsFree, KeepsNames, come, left};
 ghost use Rattle.vn_vmove.specs.Sound.{IsSound, name_in, stands_at};
 
 use crate::purging::purge;
@@ -25,6 +25,7 @@ pub fn lend(tables: &mut Tables, from: Sid, name: IfName, to: Option<Sid>) -> Re
     ensures moved { IfOk result (λ answer. OnOk answer (Becomes
         (moved_on (standing tables.old name (Some from)) (Some from) to (net_of tables.old)) tables.old tables.new)) }
     ensures refused { IfOk result (λ answer. OnErr answer (Becomes (net_of tables.old) tables.old tables.new)) }
+    ensures reserved { OnOk result (KeepsNames tables.old tables.new) }
     ensures sound { OnOk result (IsSound tables.new) }
 {
     let half = match half_named(&tables.ifs, from, name) {
@@ -56,6 +57,7 @@ pub fn reclaim(
     ensures moved { IfOk result (λ answer. OnOk answer (Becomes
         (moved_on (standing tables.old name from) from (Some to) (net_of tables.old)) tables.old tables.new)) }
     ensures refused { IfOk result (λ answer. OnErr answer (Becomes (net_of tables.old) tables.old tables.new)) }
+    ensures reserved { OnOk result (KeepsNames tables.old tables.new) }
     ensures sound { OnOk result (IsSound tables.new) }
 {
     let Some(from) = from else {
@@ -81,6 +83,7 @@ pub fn send_home(tables: &mut Tables, half: HalfId) -> Result<(), NoMemory>
     requires exists { IsSome (pair_at tables.old half.pair) }
     ensures moved { OnOk result (Becomes
         (homeward half (pair_at tables.old half.pair) (net_of tables.old)) tables.old tables.new) }
+    ensures reserved { OnOk result (KeepsNames tables.old tables.new) }
     ensures sound { OnOk result (IsSound tables.new) }
 {
     let name = IfName::Epair {
@@ -126,6 +129,7 @@ fn transfer(
     requires named { name_in tables.old half ≡ name }
     requires free { IsFree tables.old half to.0 }
     ensures moved { OnOk result (Becomes (moved half from.0 to.0 (net_of tables.old)) tables.old tables.new) }
+    ensures reserved { OnOk result (KeepsNames tables.old tables.new) }
     ensures sound { OnOk result (IsSound tables.new) }
 {
     purge(tables, from, half);

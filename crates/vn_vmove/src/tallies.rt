@@ -1,6 +1,6 @@
-ghost use Rattle.std.specs.Prelude.{◌≡◌, ◌+◌, ◌<◌, ◌^◌, ℕ, Some, None, IsNone, IsSome, IfOk, OnOk, OnErr};
+ghost use Rattle.std.specs.Prelude.{◌≡◌, ◌+◌, ◌<◌, ◌^◌, ℕ, List, Some, None, IsNone, IsSome, IfOk, OnOk, OnErr};
 ghost use Rattle.vn_types.specs.PerStack.{ChangesOnly};
-ghost use Rattle.vn_vmove.specs.Tallies.{after_count, after_ident, counts_of, drops_of, first_counts, of};
+ghost use Rattle.vn_vmove.specs.Tallies.{Held, after_count, after_ident, counts_of, drops_of, first_counts, of};
 
 use crate::counts::Counted;
 use std::alloc::Global;
@@ -10,17 +10,12 @@ use vn_types::{NoMemory, PerStack, Sid};
 
 /// What all living stacks count, seen as a list of stacks by their numbers. Only `make` takes memory.
 #[derive(Drop)]
-pub struct Tallies {
-    stacks: PerStack<Counted>,
-}
+pub struct Tallies(PerStack<Counted>);
 
 impl Model for Tallies {
-    ghost use Rattle.std.specs.Prelude.{List, Option};
-    ghost use Rattle.vn_vmove.specs.declared.counts.Counts.{Counts};
+    ghost Value = { List Held };
 
-    ghost Value = { List (Option Counts) };
-
-    ghost view = { λ a. a.stacks };
+    ghost view = { λ a. a.0 };
 }
 
 impl Tallies {
@@ -28,9 +23,7 @@ impl Tallies {
     pub fn new(alloc: Global) -> Result<Tallies, NoMemory>
         ensures { IfOk result (λ tallies. (q : ℕ) → of tallies q ≡ None) }
     {
-        Ok(Tallies {
-            stacks: PerStack::new(alloc),
-        })
+        Ok(Tallies(PerStack::new(alloc)))
     }
 
     /// Lets a stack count, from 0.
@@ -40,7 +33,7 @@ impl Tallies {
         ensures no_memory { OnErr result (of self.new sid.0 ≡ None) }
         ensures others { ChangesOnly sid.0 (of self.old) (of self.new) }
     {
-        self.stacks.at_or_new(sid)?.start();
+        self.0.at_or_new(sid)?.start();
         Ok(())
     }
 
@@ -50,7 +43,7 @@ impl Tallies {
         ensures removed { of self.new sid.0 ≡ None }
         ensures others { ChangesOnly sid.0 (of self.old) (of self.new) }
     {
-        self.stacks.at_mut(sid).unwrap().stop();
+        self.0.at_mut(sid).unwrap().stop();
     }
 
     /// Counts so many more of a cause.
@@ -60,7 +53,7 @@ impl Tallies {
         ensures counted { of self.new sid.0 ≡ Some (after_count what by (counts_of self.old sid.0)) }
         ensures others { ChangesOnly sid.0 (of self.old) (of self.new) }
     {
-        self.stacks.at_mut(sid).unwrap().count(what, by);
+        self.0.at_mut(sid).unwrap().count(what, by);
     }
 
     /// How many a stack dropped for a cause.
@@ -68,7 +61,7 @@ impl Tallies {
         requires { IsSome (of self.now sid.0) }
         ensures { result ≡ drops_of what (counts_of self.now sid.0).drops }
     {
-        self.stacks.at(sid).unwrap().get(what)
+        self.0.at(sid).unwrap().get(what)
     }
 
     /// The identification of a stack's next datagram.
@@ -76,7 +69,7 @@ impl Tallies {
         requires { IsSome (of self.now sid.0) }
         ensures { result ≡ (counts_of self.now sid.0).ident }
     {
-        self.stacks.at(sid).unwrap().ident()
+        self.0.at(sid).unwrap().ident()
     }
 
     /// Moves the identification on by one, and from the greatest to 0.
@@ -85,6 +78,6 @@ impl Tallies {
         ensures moved { of self.new sid.0 ≡ Some (after_ident (counts_of self.old sid.0)) }
         ensures others { ChangesOnly sid.0 (of self.old) (of self.new) }
     {
-        self.stacks.at_mut(sid).unwrap().next_ident();
+        self.0.at_mut(sid).unwrap().next_ident();
     }
 }
