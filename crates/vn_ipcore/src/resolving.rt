@@ -1,0 +1,149 @@
+ghost use Rattle.std.specs.Prelude.{◌≡◌, ◌<◌, ◌^◌, false, length, true, Ok, OnOk};
+ghost use Rattle.vn_types.specs.Interfaces.{half_id_eq};
+ghost use Rattle.vn_packets.specs.ArpPackets.{arp_heard, arp_read, arp_received, is_stranger as is_stranger_to, mac_of, reply, sent_arp, sent_datagrams};
+ghost use Rattle.vn_vmove.specs.Parts.{pair_at, parts};
+ghost use Rattle.vn_vmove.specs.Sound.{IsSound, stands_at};
+ghost use Rattle.vn_ipcore.specs.Scenes.{HasRoom, HasRoomFor, Replaces, scene_of};
+
+use crate::sending::{send_arp, send_datagram};
+use std::alloc::Global;
+use vn_arp::Packets;
+use vn_link::ArpPacket;
+use vn_types::{HalfId, If, Ip4, Mac, NoMemory, Sid};
+use vn_vmove::{Tables, Tally};
+
+const REPLY: u16 = 2;
+
+/// An ARP packet comes to a half that stands in the stack (RFC 826, "Packet Reception").
+pub fn input_arp(
+    alloc: Global,
+    tables: &mut Tables,
+    sid: Sid,
+    half: HalfId,
+    octets: &[u8],
+    now: u64,
+) -> Result<(), NoMemory>
+    requires sound { IsSound tables.old }
+    requires stands { stands_at sid.0 half.side (pair_at tables.old half.pair) ≡ true }
+    requires counters { HasRoom tables.old sid.0 }
+    requires clock { now < 2 ^ 63 }
+    requires armed { (parts tables.old sid.0).timers.armed < 2 ^ 63 }
+    ensures { OnOk result (Replaces sid.0
+        (arp_received half_id_eq (record { clock = now }) half octets.now (scene_of tables.old sid.0)) tables.old tables.new) }
+{
+    match ArpPacket::read(octets) {
+        Ok(packet) => heed(alloc, tables, sid, half, packet, now),
+        Err(_) => {
+            tables.tallies.count(sid, Tally::Arp, 1);
+            Ok(())
+        }
+    }
+}
+
+/// A packet counts for nothing where its sender does.
+fn heed(
+    alloc: Global,
+    tables: &mut Tables,
+    sid: Sid,
+    half: HalfId,
+    packet: ArpPacket,
+    now: u64,
+) -> Result<(), NoMemory>
+    requires sound { IsSound tables.old }
+    requires stands { stands_at sid.0 half.side (pair_at tables.old half.pair) ≡ true }
+    requires counters { HasRoom tables.old sid.0 }
+    requires clock { now < 2 ^ 63 }
+    requires armed { (parts tables.old sid.0).timers.armed < 2 ^ 63 }
+    ensures { OnOk result (Replaces sid.0
+        (arp_read half_id_eq (record { clock = now }) half (Ok packet) (scene_of tables.old sid.0)) tables.old tables.new) }
+{
+    if is_stranger(tables, sid, half, packet.spa) {
+        tables.tallies.count(sid, Tally::Arp, 1);
+        return Ok(());
+    }
+    hear(alloc, tables, sid, half, packet, now)
+}
+
+/// Whether the sender of a packet counts for nothing.
+fn is_stranger(tables: &Tables, sid: Sid, half: HalfId, ip: Ip4) -> bool
+    ensures { result ≡ is_stranger_to half_id_eq half ip (parts tables.now sid.0) }
+{
+    tables.addrs.local(sid, ip) || !tables.routes.covers(sid, If::Half(half), ip)
+}
+
+/// The sender is learnt, what waited for it is sent, and then a request is replied to.
+fn hear(
+    alloc: Global,
+    tables: &mut Tables,
+    sid: Sid,
+    half: HalfId,
+    packet: ArpPacket,
+    now: u64,
+) -> Result<(), NoMemory>
+    requires sound { IsSound tables.old }
+    requires stands { stands_at sid.0 half.side (pair_at tables.old half.pair) ≡ true }
+    requires counters { HasRoom tables.old sid.0 }
+    requires clock { now < 2 ^ 63 }
+    requires armed { (parts tables.old sid.0).timers.armed < 2 ^ 63 }
+    requires known { is_stranger_to half_id_eq half packet.spa (parts tables.old sid.0) ≡ false }
+    ensures { OnOk result (Replaces sid.0
+        (arp_heard half_id_eq (record { clock = now }) half packet (scene_of tables.old sid.0)) tables.old tables.new) }
+{
+    let is_mine = tables.addrs.on_interface(sid, If::Half(half), packet.tpa);
+    let learned = tables
+        .arp
+        .input(sid, half, &packet, is_mine, now, &mut tables.wheel)?;
+    let reply = learned.reply;
+    send_all(alloc, tables, sid, half, packet.sha, learned.release)?;
+    if !reply {
+        return Ok(());
+    }
+    send_reply(alloc, tables, sid, half, packet)
+}
+
+/// A half that stands in the stack sends datagrams to a station, one after another.
+fn send_all(
+    alloc: Global,
+    tables: &mut Tables,
+    sid: Sid,
+    half: HalfId,
+    to: Mac,
+    packets: Packets,
+) -> Result<(), NoMemory>
+    requires sound { IsSound tables.old }
+    requires stands { stands_at sid.0 half.side (pair_at tables.old half.pair) ≡ true }
+    requires room { HasRoomFor (length packets) tables.old sid.0 }
+    ensures { OnOk result (Replaces sid.0
+        (sent_datagrams half_id_eq half to packets (scene_of tables.old sid.0)) tables.old tables.new) }
+{
+    let mut packets = packets;
+    while let Some(datagram) = packets.take() {
+        send_datagram(alloc, tables, sid, half, to, &datagram)?;
+    }
+    Ok(())
+}
+
+/// A half that stands in the stack replies to a request for its address.
+fn send_reply(
+    alloc: Global,
+    tables: &mut Tables,
+    sid: Sid,
+    half: HalfId,
+    packet: ArpPacket,
+) -> Result<(), NoMemory>
+    requires sound { IsSound tables.old }
+    requires stands { stands_at sid.0 half.side (pair_at tables.old half.pair) ≡ true }
+    requires room { HasRoomFor 1 tables.old sid.0 }
+    ensures { OnOk result (Replaces sid.0 (sent_arp half_id_eq half packet.sha
+        (reply (mac_of half_id_eq half (scene_of tables.old sid.0)) packet) (scene_of tables.old sid.0))
+        tables.old tables.new) }
+{
+    let answer = ArpPacket {
+        op: REPLY,
+        sha: tables.pairs.mac(half),
+        spa: packet.tpa,
+        tha: packet.sha,
+        tpa: packet.spa,
+    };
+    send_arp(alloc, tables, sid, half, packet.sha, answer)
+}
