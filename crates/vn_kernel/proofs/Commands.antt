@@ -1,73 +1,169 @@
 -- What a command is answered, and its entry, together as the machine's step.
-use Rattle.std.proofs.Common.{◌≡◌, ℕ, ◌+◌, ◌≤◌, ◌++◌, ◌&&◌, Bool, true, false, length, not, IsTrue, List, [], ◌∷◌, Some, None, refl, sym, ap, ap₂, ◌∙◌, subst}
-use Rattle.std.specs.Prelude.{nat_le, nat_lt}
+use Rattle.std.proofs.Common.{◌≡◌, ℕ, ◌+◌, ◌≤◌, ◌++◌, ◌&&◌, Bool, true, false, length, map, not, IsTrue, List, [], ◌∷◌, Some, None, refl, sym, ap, ap₂, ◌∙◌, subst, arith}
+use Rattle.std.specs.Prelude.{if◌then◌else◌, nat_le, nat_lt}
 use Rattle.std.proofs.lemmas.Bool.{leb-true, and_parts, false≢true}
-use Rattle.vn_types.specs.Paths.{Path, above, first_or_host}
+use Rattle.vn_types.specs.Paths.{Path, above, parent}
 use Rattle.vn_types.specs.declared.errno.Errno.{Errno}
 use Rattle.vn_types.specs.declared.errno.Errno.TheVariants as errno
 use Rattle.vn_types.specs.Refusals.{first_refusal}
 use Rattle.vn_rules.specs.declared.outcome.Outcome.{Outcome}
-use Rattle.vn_rules.specs.Rules.{Common, Rule, answer, answer_by, done, refused}
+use Rattle.vn_rules.specs.declared.outcome.Outcome.TheVariants.{Done, Refused}
+use Rattle.vn_rules.specs.Rules.{Answer, Rule, answer, answer_by, done, refused}
+use Rattle.vn_jail.specs.declared.jail.Jail.{Jail}
+use Rattle.vn_jail.specs.Kept.{IsLinked, IsTree}
+use Rattle.vn_jail.specs.Tree.{any_full, create_refusal, created as created_of, is_alive, number_of}
+use Rattle.vn_vmove.specs.declared.tables.Tables.{Tables}
+use Rattle.vn_vmove.specs.Parts.{lives}
 use Rattle.vn_cells.specs.declared.command.Command.{Command}
 use Rattle.vn_cells.specs.declared.command.Command.TheVariants.{JailCreate}
 use Rattle.vn_cells.specs.declared.event.Event.{Event}
 use Rattle.vn_cells.specs.declared.event.Event.TheVariants as event
+use Rattle.vn_cells.specs.declared.transcript.Entry.{Entry}
 use Rattle.vn_cells.specs.declared.transcript.What.TheVariants as what
 use Rattle.vn_cells.specs.declared.world.World.{World}
 use Rattle.vn_cells.specs.machine.Events.{IsValidEvent, is_at_path, is_built, is_built_command, is_valid_event, is_named_path, is_valid_command}
 use Rattle.vn_cells.specs.world.Names.{is_host, is_path}
-use Rattle.vn_cells.specs.world.World.{common_of, edit_stack, each_stack, is_alive, noting}
+use Rattle.vn_cells.specs.world.World.{common_of}
 use Rattle.vn_cells.specs.machine.Commands.{far_rule}
-use Rattle.vn_cells.specs.commands.Jails.{any_full, construct, created, creation}
-use Rattle.vn_cells.specs.machine.Reach.{reach}
+use Rattle.vn_cells.specs.commands.Jails.{created, creation, init_entry, rows}
+use Rattle.vn_cells.specs.machine.Reach.{Near, Reach, reach}
 use Rattle.vn_cells.specs.machine.Step.{commanded, entered, ran_by, step}
-use Rattle.vn_kernel.specs.Worlds.{one_more_in_each}
+use Rattle.vn_kernel.specs.Construction.{Constructs}
+use Rattle.vn_kernel.specs.Fields.{Fields}
+use Rattle.vn_kernel.specs.Stands.{Answered, Grows, Leaves, Ran, Stands, Stepped}
+use Rattle.vn_kernel.specs.Worlds.{logged, with_entry, world_of}
+use Rattle.vn_kernel.proofs.Created.{leaves-created}
+use Rattle.vn_kernel.proofs.Jails.{free-number}
+use Rattle.vn_kernel.proofs.Refusals.{refusal-is}
+use Rattle.vn_kernel.proofs.Views.{alive-is, stands-entry, world-entry}
 
 -- ---- creation of a jail
-
--- by what the kernel tests, in order
-pub refused_by : (common : Common) (limit : ℕ) (w : World) (p : Path) (ps : List Path) (a b c : Bool) → ps ≡ above p → a ≡ is_alive w (first_or_host ps) → b ≡ is_alive w p → c ≡ any_full w ps
-    → first_refusal ((not a, errno.NoEnt) ∷ (b, errno.Exist) ∷ (c, errno.Perm) ∷ []) ≡ first_refusal (creation common p limit w).refusals
-refused_by common limit w p ps a b c at host here full =
-    rw (host, here, full) (ap (λ qs. first_refusal ((not (is_alive w (first_or_host qs)), errno.NoEnt) ∷ (is_alive w p, errno.Exist) ∷ (any_full w qs, errno.Perm) ∷ [])) at)
-
--- the ancestors are told, and then the jail is constructed
-pub created_is : (w mid after : World) (p : Path) (ps : List Path) (limit : ℕ) → ps ≡ above p → mid ≡ one_more_in_each ps w
-    → after ≡ edit_stack p (construct mid.clock (Some (record { limit = limit; living = 0 }))) mid → after ≡ created w.clock p limit w
-unfolding created each_stack
-created_is w mid after p ps limit at told is = is ∙ ap (λ (m : World). edit_stack p (construct m.clock (Some (record { limit = limit; living = 0 }))) m) (told ∙ ap (λ qs. one_more_in_each qs w) at)
 
 -- what a rule answers where it refuses, and where it does not
 pub refused_is : (w : World) (rule : Rule World) (e : Errno) → Some e ≡ first_refusal rule.refusals → answer w rule ≡ refused e w
 unfolding answer_by
 refused_is w rule e is = ap (λ r. answer_by r w rule.otherwise) (sym is)
 
-pub done_is : (w after : World) (p : Path) (limit : ℕ) → None ≡ first_refusal (creation (common_of w) p limit w).refusals → after ≡ created w.clock p limit w
+pub done_is : (w after : World) (p : Path) (limit : ℕ) → first_refusal (creation (common_of w) p limit w).refusals ≡ None → after ≡ created w.clock p limit w
     → answer w (creation (common_of w) p limit w) ≡ done after
 unfolding answer_by
-done_is w after p limit none is = ap (λ r. answer_by r w (done (created w.clock p limit w))) (sym none) ∙ ap done (sym is)
+done_is w after p limit none is = ap (λ r. answer_by r w (done (created w.clock p limit w))) none ∙ ap done (sym is)
+
+-- what is answered, where what is left stands
+answered : (a : Answer World) (given : Outcome) (f g : Fields) → a ≡ record { left = world_of g; outcome = given } → Stands g → Grows f g → Answered a given f g
+answered a given f g is stands grows = record {
+  outcome = sym (ap (λ (x : Answer World). x.outcome) is);
+  leaves = record { world = sym (ap (λ (x : Answer World). x.left) is); stands = stands; grows = grows };
+}
+
+grows_not : (f : Fields) → Grows f f
+grows_not f = record { jails = omega arith; pairs = omega arith }
+
+module _ (f : Fields) (s : Stands f) (p : Path) (limit : ℕ) where
+  abbrev rule : Rule World
+  rule = creation (common_of (world_of f)) p limit (world_of f)
+
+  -- a creation that is refused leaves all as it was
+  pub refused_creation : (e : Errno) (js : List Jail) → create_refusal p f.jails ≡ Some e → js ≡ f.jails
+      → Answered (answer (world_of f) (creation (common_of (world_of f)) p limit (world_of f))) (Refused e) f (record f { jails = js })
+  refused_creation e js refusal same =
+      subst (λ js. Answered (answer (world_of f) rule) (Refused e) f (record f { jails = js })) (sym same)
+      (answered (answer (world_of f) rule) (Refused e) f f (refused_is (world_of f) rule e (sym (refusal-is f s (common_of (world_of f)) p limit ∙ refusal))) s (grows_not f))
+
+  -- one that is not leaves the jail constructed
+  pub done_creation : (g : Fields) → create_refusal p f.jails ≡ None → Leaves (created f.clock p limit (world_of f)) f g
+      → Answered (answer (world_of f) (creation (common_of (world_of f)) p limit (world_of f))) Done f g
+  unfolding world_of
+  done_creation g refusal leaves =
+      answered (answer (world_of f) rule) Done f g (done_is (world_of f) (world_of g) p limit (refusal-is f s (common_of (world_of f)) p limit ∙ refusal) leaves.world) leaves.stands leaves.grows
+
+-- what is not refused doesn't live
+pub free-dead : (p : Path) (jails : List Jail) → create_refusal p jails ≡ None → is_alive p jails ≡ false
+free-dead p jails free = by (is_alive (parent p) jails) (is_alive p jails) free
+  where
+    by : (up here : Bool) → first_refusal ((not up, errno.NoEnt) ∷ (here, errno.Exist) ∷ (any_full jails (above p), errno.Perm) ∷ []) ≡ None → here ≡ false
+    by up false free = refl
+    by true true free = cc
+    by false true free = cc
+
+-- the stack that is constructed did not live
+pub free_lives : (f : Fields) (s : Stands f) (p : Path) (label : is_host p ≡ false) (n : ℕ) → create_refusal p f.jails ≡ None → n ≡ number_of p f.jails → lives f.tables n ≡ false
+free_lives f s p label n free is = ap (lives f.tables) is ∙ s.living (number_of p f.jails) ∙ free-number f.jails s.linked p label (free-dead p f.jails free) 0
+
+-- what a creation leaves that is not refused
+pub created_as : (f : Fields) (s : Stands f) (p : Path) (limit : ℕ) (label : is_host p ≡ false) (free : create_refusal p f.jails ≡ None)
+    (js : List Jail) → js ≡ created_of p limit f.jails → IsLinked js → IsTree js → length js ≤ length f.jails + 1
+    → (n : ℕ) → n ≡ number_of p f.jails → (u : Tables) → Constructs n f.tables u
+    → (logs : List (Path × List Entry)) → logs ≡ logged p (map (init_entry f.clock) rows) f.logs
+    → Answered (answer (world_of f) (creation (common_of (world_of f)) p limit (world_of f))) Done f (record f { jails = js; logs = logs; tables = u })
+created_as f s p limit label free js made linked tree few n number u c logs noted =
+    done_creation f s p limit (record f { jails = js; logs = logs; tables = u }) free
+    (subst (Leaves (created f.clock p limit (world_of f)) f) (λ i. record f { jails = sym made i; logs = sym noted i; tables = u })
+    (leaves-created f s p label (free-dead p f.jails free) limit (subst IsLinked made linked) (subst IsTree made tree) (subst (λ (js : List Jail). length js ≤ length f.jails + 1) made few)
+    u (subst (λ n. Constructs n f.tables u) number c)))
 
 -- ---- a command
 
+named_of : (issuer : Path) (command : Command) (path : Path) (limit : ℕ) → command ≡ JailCreate path limit → IsTrue (is_valid_command issuer command) → is_named_path issuer path ≡ true
+unfolding is_valid_command
+named_of issuer command path limit is valid = (and_parts (is_named_path issuer path) (nat_lt limit 10000) (subst (λ c. IsTrue (is_valid_command issuer c)) is valid)).0
+
 pub joins : (issuer : Path) (command : Command) (path : Path) (limit : ℕ) → command ≡ JailCreate path limit → IsTrue (is_valid_command issuer command) → length issuer + length path ≤ 8
-unfolding is_valid_command is_named_path
+unfolding is_named_path
 joins issuer command path limit is valid =
-    let named = (and_parts (is_named_path issuer path) (nat_lt limit 10000) (subst (λ c. IsTrue (is_valid_command issuer c)) is valid)).0 in
-    leb-true (length issuer + length path) 8 (and_parts (is_path path && not (is_host path)) (nat_le (length issuer + length path) 8) named).1
+    leb-true (length issuer + length path) 8 (and_parts (is_path path && not (is_host path)) (nat_le (length issuer + length path) 8) (named_of issuer command path limit is valid)).1
+
+-- a path that a command names has a label behind the issuer's
+labelled : (issuer path : Path) → is_host path ≡ false → is_host (issuer ++ path) ≡ false
+unfolding is_host
+labelled [] path label = label
+labelled (l ∷ issuer) path label = refl
+
+unlabelled : (b : Bool) → not b ≡ true → b ≡ false
+unlabelled true e = absurd (false≢true e)
+unlabelled false e = refl
+
+pub names_jail : (issuer jail : Path) (command : Command) (path : Path) (limit : ℕ) → command ≡ JailCreate path limit → IsTrue (is_valid_command issuer command) → jail ≡ issuer ++ path → is_host jail ≡ false
+unfolding is_named_path
+names_jail issuer jail command path limit is valid at =
+    let named = (and_parts (is_path path && not (is_host path)) (nat_le (length issuer + length path) 8) (named_of issuer command path limit is valid)).0 in
+    ap is_host at ∙ labelled issuer path (unlabelled (is_host path) (and_parts (is_path path) (not (is_host path)) named).1)
 
 -- at a path that does not live
-pub dead : (w : World) (issuer : Path) (command : Command) (lane : ℕ) → false ≡ is_alive w issuer → commanded lane issuer command w ≡ entered w.clock lane issuer command (refused errno.NoEnt w)
-unfolding commanded
-dead w issuer command lane is = rw (← is) refl
+pub dead : (f : Fields) (issuer : Path) (command : Command) → Stands f → is_alive issuer f.jails ≡ false → Ran issuer command (Refused errno.NoEnt) f f
+unfolding commanded world_of
+dead f issuer command s gone = record {
+  entered = λ lane. sym (ap (λ b. if b then ran_by lane issuer command (reach issuer command) (world_of f) else entered f.clock lane issuer command (refused errno.NoEnt (world_of f))) (alive-is f s issuer ∙ gone));
+  stands = s;
+  grows = grows_not f;
+}
 
--- at a living path
-pub answered_at : (w after : World) (issuer jail : Path) (command : Command) (path : Path) (limit : ℕ) (outcome : Outcome) → command ≡ JailCreate path limit → true ≡ is_alive w issuer → jail ≡ issuer ++ path
-    → answer w (creation (common_of w) jail limit w) ≡ record { left = after; outcome = outcome }
-    → (lane : ℕ) → commanded lane issuer command w ≡ entered w.clock lane issuer command (record { left = after; outcome = outcome })
-unfolding commanded ran_by reach far_rule
-answered_at w after issuer jail command path limit outcome same alive at is lane =
-    subst (λ c. commanded lane issuer c w ≡ entered w.clock lane issuer c (record { left = after; outcome = outcome })) (sym same)
-    (rw (← alive) (ap (λ j. entered w.clock lane issuer (JailCreate path limit) (answer w (creation (common_of w) j limit w))) (sym at) ∙ ap (entered w.clock lane issuer (JailCreate path limit)) is))
+far : (r : Reach) (lane : ℕ) (issuer : Path) (command : Command) (w : World) → (r ≡ Near → ⊥) → ran_by lane issuer command r w ≡ entered w.clock lane issuer command (answer w (far_rule (common_of w) issuer r w))
+unfolding ran_by
+far Near lane issuer command w beyond = absurd (beyond refl)
+far _ lane issuer command w beyond = refl
+
+-- at a living path, a command that reaches beyond its stack
+pub reached : (f g : Fields) (issuer : Path) (command : Command) (given : Outcome) → Stands f → is_alive issuer f.jails ≡ true → (reach issuer command ≡ Near → ⊥)
+    → Answered (answer (world_of f) (far_rule (common_of (world_of f)) issuer (reach issuer command) (world_of f))) given f g → Ran issuer command given f g
+unfolding commanded world_of
+reached f g issuer command given s alive beyond a = record {
+  entered = λ lane.
+      (λ i. entered f.clock lane issuer command (record { left = a.leaves.world i; outcome = a.outcome i }))
+      ∙ sym (far (reach issuer command) lane issuer command (world_of f) beyond)
+      ∙ sym (ap (λ b. if b then ran_by lane issuer command (reach issuer command) (world_of f) else entered f.clock lane issuer command (refused errno.NoEnt (world_of f))) (alive-is f s issuer ∙ alive));
+  stands = a.leaves.stands;
+  grows = a.leaves.grows;
+}
+
+-- a jail is made
+pub made_jail : (f g : Fields) (issuer jail : Path) (command : Command) (path : Path) (limit : ℕ) (given : Outcome) → Stands f → is_alive issuer f.jails ≡ true → command ≡ JailCreate path limit → jail ≡ issuer ++ path
+    → Answered (answer (world_of f) (creation (common_of (world_of f)) jail limit (world_of f))) given f g → Ran issuer command given f g
+unfolding reach far_rule
+made_jail f g issuer jail command path limit given s alive is at a =
+    subst (λ c. Ran issuer c given f g) (sym is)
+    (reached f g issuer (JailCreate path limit) given s alive (λ near. cc)
+    (subst (λ j. Answered (answer (world_of f) (creation (common_of (world_of f)) j limit (world_of f))) given f g) at a))
 
 pub only_creation : (command : Command) → ((path : Path) (limit : ℕ) → command ≡ JailCreate path limit → ⊥) → is_built_command command ≡ true → ⊥
 unfolding is_built_command
@@ -75,11 +171,15 @@ only_creation (JailCreate path limit) other built = other path limit refl
 only_creation _ other built = false≢true built
 
 -- the outcome is noted
-pub noted : (w mid after : World) (clock lane : ℕ) (issuer : Path) (command copy : Command) (outcome : Outcome) → clock ≡ w.clock → copy ≡ command
-    → ((lane : ℕ) → commanded lane issuer command w ≡ entered w.clock lane issuer command (record { left = mid; outcome = outcome }))
-    → after ≡ edit_stack issuer (noting (record { clock = clock; what = what.Cmd lane copy outcome })) mid → after ≡ commanded lane issuer command w
-noted w mid after clock lane issuer command copy outcome now same a is =
-    is ∙ ap₂ (λ (n : ℕ) (c : Command). edit_stack issuer (noting (record { clock = n; what = what.Cmd lane c outcome })) mid) now same ∙ sym (a lane)
+pub noted : (f g : Fields) (clock lane : ℕ) (issuer : Path) (command copy : Command) (given : Outcome) → clock ≡ f.clock → copy ≡ command → Ran issuer command given f g
+    → (after : Fields) → after ≡ with_entry issuer (record { clock = clock; what = what.Cmd lane copy given }) g → Leaves (commanded lane issuer command (world_of f)) f after
+noted f g clock lane issuer command copy given now same ran after is =
+    subst (Leaves (commanded lane issuer command (world_of f)) f) (sym (is ∙ ap₂ (λ (n : ℕ) (c : Command). with_entry issuer (record { clock = n; what = what.Cmd lane c given }) g) now same))
+    (record {
+      world = world-entry g ran.stands issuer (record { clock = f.clock; what = what.Cmd lane command given }) ∙ ran.entered lane;
+      stands = stands-entry g ran.stands issuer (record { clock = f.clock; what = what.Cmd lane command given });
+      grows = record { jails = ran.grows.jails; pairs = ran.grows.pairs };
+    })
 
 -- ---- an event
 
@@ -96,6 +196,6 @@ unfolding is_built
 only_commands (event.Cmd lane path command) other built = other lane path command refl
 only_commands _ other built = false≢true built
 
-pub step_of : (w : World) (e : Event) (lane : ℕ) (path : Path) (command : Command) → e ≡ event.Cmd lane path command → commanded lane path command w ≡ step w e
+pub step_of : (f g : Fields) (e : Event) (lane : ℕ) (path : Path) (command : Command) → e ≡ event.Cmd lane path command → Leaves (commanded lane path command (world_of f)) f g → Stepped e f g
 unfolding step
-step_of w e lane path command is = ap (step w) (sym is)
+step_of f g e lane path command is leaves = subst (λ e. Stepped e f g) (sym is) leaves

@@ -1,42 +1,16 @@
--- Runs with one event more, and the rows that have a transcript.
-use Rattle.std.proofs.Common.{◌≡◌, ℕ, Bool, true, false, List, [], ◌∷◌, ◌++◌, None, Some, map, length, suc, ◌<◌, arith, refl, sym, ap, ap₂, ◌∙◌, subst}
-use Rattle.std.specs.Prelude.{if◌then◌else◌}
-use Rattle.std.specs.List.{filter}
+-- Runs with one event more, and what a kernel keeps then.
+use Rattle.std.proofs.Common.{◌≡◌, ℕ, Bool, true, false, List, [], ◌∷◌, ◌++◌, None, Some, length, suc, ◌<◌, ◌≤◌, arith, refl, sym, ap, ◌∙◌, subst}
 use Rattle.std.proofs.lemmas.List.Folds.{list_all-append}
-use Rattle.vn_types.specs.Paths.{Path}
-use Rattle.vn_types.specs.Entries.{find, put}
-use Rattle.vn_cells.specs.world.World.{edit_stack, stack_at}
-use Rattle.vn_cells.specs.commands.Jails.{construct}
+use Rattle.vn_cells.specs.declared.event.Event.{Event}
+use Rattle.vn_cells.specs.declared.event.TheConstants.{EVENTS_MAX}
+use Rattle.vn_cells.specs.declared.world.World.{World}
+use Rattle.vn_cells.specs.machine.Events.{IsBuilt, IsValid, IsValidEvent, is_built, is_valid_event}
 use Rattle.vn_cells.specs.machine.Step.{opening, run, run_from, step}
 use Rattle.vn_laws.proofs.Cleaned.{run-last}
-use Rattle.vn_cells.specs.declared.event.TheConstants.{EVENTS_MAX}
-use Rattle.vn_cells.specs.machine.Events.{IsBuilt, IsValid, IsValidEvent, is_built, is_valid_event}
-use Rattle.vn_kernel.specs.Machines.{IsKept, IsRun, kept}
-use Rattle.vn_kernel.specs.Worlds.{empty}
-use Rattle.vn_cells.specs.declared.event.Event.{Event}
-use Rattle.vn_cells.specs.declared.transcript.Entry.{Entry}
-use Rattle.vn_cells.specs.declared.world.Stack.{Stack}
-use Rattle.vn_cells.specs.declared.world.World.{World}
-use Rattle.vn_cells.specs.texts.Reports.{has_entry, section_of}
-
--- a row without entries has no section
-pub skipped : (rows : List (Path × Stack)) (row : Path × Stack) → length row.1.entries ≡ 0
-    → map section_of (filter (λ s. has_entry s.1.entries) (rows ++ row ∷ [])) ≡ map section_of (filter (λ s. has_entry s.1.entries) rows)
-skipped rows row none = ap (map section_of) (go rows)
-  where
-    bare : (entries : List Entry) → length entries ≡ 0 → has_entry entries ≡ false
-    bare [] is = refl
-    bare (e ∷ es) is = cc
-
-    go : (rs : List (Path × Stack)) → filter (λ s. has_entry s.1.entries) (rs ++ row ∷ []) ≡ filter (λ s. has_entry s.1.entries) rs
-    go [] = rw (bare row.1.entries none) refl
-    go (r ∷ rs) = ap (λ xs. if has_entry r.1.entries then r ∷ xs else xs) (go rs)
-
--- ---- the kernel's invariant
-
-pub opened_run : (w after : World) (host : Path) (events : List Event) → w ≡ empty → host ≡ [] → events ≡ [] → after ≡ edit_stack host (construct w.clock None) w → after ≡ run events
-unfolding edit_stack stack_at find put run_from
-opened_run w after host events none at first is = is ∙ ap₂ (λ (v : World) (p : Path). edit_stack p (construct v.clock None) v) none at ∙ ap run (sym first)
+use Rattle.vn_kernel.specs.Fields.{Fields}
+use Rattle.vn_kernel.specs.Machines.{IsHeld, IsKept, IsRun, kept}
+use Rattle.vn_kernel.specs.Stands.{AreFew, HasRoom, IsOpen, Stepped}
+use Rattle.vn_kernel.specs.Worlds.{world_of}
 
 pub still_run : (spent : Bool) (w after : World) (events now : List Event) (event : Event) → spent ≡ false → IsRun (kept spent w) events → after ≡ step w event → now ≡ events ++ event ∷ [] → after ≡ run now
 still_run false w after events now event is ran moved put_is = moved ∙ ap (λ v. step v event) ran ∙ sym (run-last opening events event) ∙ ap run (sym put_is)
@@ -68,4 +42,28 @@ none_kept w events ran none = record {
   short = rw (none) (omega arith);
   valid = rw (none) refl;
   built = rw (none) refl;
+}
+
+-- ---- with its state
+
+pub has_room : (f : Fields) (events : ℕ) → AreFew events f → events ≤ EVENTS_MAX → HasRoom f
+has_room f events few short = record { jails = omega (arith, few.jails); pairs = omega (arith, few.pairs) }
+
+pub still_held : (spent : Bool) (f g : Fields) (events now : List Event) (event : Event) (count : ℕ) → spent ≡ false → IsHeld spent f events → Stepped event f g
+    → now ≡ events ++ event ∷ [] → count ≡ length events → count < EVENTS_MAX → IsValidEvent event → is_built event ≡ true → IsHeld false g now
+still_held spent f g events now event count is held stepped put_is counted few more built = record {
+  machine = still_kept spent (world_of f) (world_of g) events now event count is held.machine stepped.world put_is counted few more built;
+  stands = λ _. stepped.stands;
+  few = λ _. record {
+    jails = omega (arith, (held.few is).jails, stepped.grows.jails, ap length put_is, length_snoc events event);
+    pairs = omega (arith, (held.few is).pairs, stepped.grows.pairs, ap length put_is, length_snoc events event);
+  };
+}
+
+pub opened_held : (f : Fields) (events : List Event) → IsOpen f → events ≡ [] → IsHeld false f events
+unfolding run_from
+opened_held f events begun none = record {
+  machine = none_kept (world_of f) events (begun.world ∙ ap run (sym none)) none;
+  stands = λ _. begun.stands;
+  few = λ _. subst (λ es. AreFew (length es) f) (sym none) begun.few;
 }

@@ -5,6 +5,9 @@ use Rattle.vn_cells.specs.declared.world.World.{World}
 use Rattle.vn_cells.specs.machine.Events.{IsBuilt, IsValid}
 use Rattle.vn_cells.specs.machine.Step.{opening, run, step}
 use Rattle.vn_cells.specs.declared.event.TheConstants.{EVENTS_MAX}
+use Rattle.vn_kernel.specs.Fields.{Fields}
+use Rattle.vn_kernel.specs.Stands.{AreFew, Stands}
+use Rattle.vn_kernel.specs.Worlds.{world_of}
 
 -- a spent kernel has no world: memory was wanting in the middle of an event
 pub record Machine : Type 0 where
@@ -57,3 +60,12 @@ pub record IsKept (world : Option World) (events : List Event) : Type 0 where
   pub valid : IsValid events
   -- and is one that the program runs
   pub built : IsBuilt events
+
+-- what a kernel keeps that is spent or not
+pub record IsHeld (spent : Bool) (f : Fields) (events : List Event) : Type 0 where
+  -- what its fields stand for, and the events
+  pub machine : IsKept (kept spent (world_of f)) events
+  -- they fit together, where it is not spent
+  pub stands : spent ≡ false → Stands f
+  -- and no more numbers are given than there were events
+  pub few : spent ≡ false → AreFew (length events) f

@@ -1,20 +1,22 @@
-ghost use Rattle.std.specs.Prelude.{◌≡◌, ℕ, IfOk, IsTrue, OnOk, true};
+ghost use Rattle.std.specs.Prelude.{◌≡◌, IfOk, IsTrue, OnOk, true};
 ghost use Rattle.vn_cells.specs.machine.Events.{IsValidEvent, is_built, is_built_command, is_valid_command};
-ghost use Rattle.vn_cells.specs.commands.Jails.{creation};
-ghost use Rattle.vn_cells.specs.machine.Step.{commanded, entered, step};
-ghost use Rattle.vn_cells.specs.world.World.{common_of};
-ghost use Rattle.vn_rules.specs.Rules.{answer};
+ghost use Rattle.vn_cells.specs.machine.Step.{commanded};
+ghost use Rattle.vn_kernel.specs.Fields.{fields};
+ghost use Rattle.vn_kernel.specs.Stands.{HasRoom, Leaves, Ran, Stands, Stepped};
+ghost use Rattle.vn_kernel.specs.Worlds.{world_of};
 
-use crate::creation::{ancestors, create, creation_refusal};
+use crate::creation::make_jail;
 use crate::state::State;
 use vn_cells::{Command, Entry, Event, Outcome, What};
 use vn_types::{Boxed, Errno, NoMemory, Path, join};
 
 /// Moves the state by one event, as the machine does.
 pub(crate) fn happen(state: &mut State, event: &Event) -> Result<(), NoMemory>
+    requires stands { Stands (fields state.old) }
+    requires room { HasRoom (fields state.old) }
     requires valid { IsValidEvent event.now }
     requires built { is_built event.now ≡ true }
-    ensures { OnOk result (state.new ≡ step state.old event.now) }
+    ensures { OnOk result (Stepped event.now (fields state.old) (fields state.new)) }
 {
     match event {
         Event::Cmd {
@@ -33,14 +35,16 @@ fn run_command(
     issuer: &Path,
     command: &Command,
 ) -> Result<(), NoMemory>
+    requires stands { Stands (fields state.old) }
+    requires room { HasRoom (fields state.old) }
     requires valid { IsTrue (is_valid_command issuer.now command.now) }
     requires built { is_built_command command.now ≡ true }
-    ensures { OnOk result (state.new
-        ≡ commanded lane issuer.now command.now state.old) }
+    ensures { OnOk result (Leaves (commanded lane issuer.now command.now (world_of (fields state.old)))
+        (fields state.old) (fields state.new)) }
 {
-    let clock = state.clock();
+    let clock = state.clock;
     let outcome = run_at(state, issuer, command)?;
-    let command = Boxed::new(state.allocator(), command.copy()?)?;
+    let command = Boxed::new(state.alloc, command.copy()?)?;
     let what = What::Cmd {
         lane,
         command,
@@ -51,35 +55,21 @@ fn run_command(
 
 /// What a command does, if it is not refused, and what it is answered.
 fn run_at(state: &mut State, issuer: &Path, command: &Command) -> Result<Outcome, NoMemory>
+    requires stands { Stands (fields state.old) }
+    requires room { HasRoom (fields state.old) }
     requires valid { IsTrue (is_valid_command issuer.now command.now) }
     requires built { is_built_command command.now ≡ true }
-    ensures { IfOk result (λ outcome. (lane : ℕ)
-        → commanded lane issuer.now command.now state.old
-        ≡ entered state.old.clock lane issuer.now command.now
-        (record { left = state.new; outcome = outcome })) }
+    ensures { IfOk result (λ outcome.
+        Ran issuer.now command.now outcome (fields state.old) (fields state.new)) }
 {
-    if !state.is_alive(issuer) {
+    if state.jails.alive(issuer).is_none() {
         return Ok(Outcome::Refused(Errno::NoEnt));
     }
     match command {
         Command::JailCreate { path, children_max } => {
-            let jail = join(state.allocator(), issuer, path)?;
+            let jail = join(state.alloc, issuer, path)?;
             make_jail(state, jail, *children_max)
         }
         _ => unreachable!(),
     }
-}
-
-/// Makes a jail, unless that is refused (jail(8), `-c`).
-fn make_jail(state: &mut State, jail: Path, limit: u32) -> Result<Outcome, NoMemory>
-    ensures { IfOk result (λ outcome.
-        answer state.old (creation (common_of state.old) jail limit state.old)
-        ≡ record { left = state.new; outcome = outcome }) }
-{
-    let ancestors = ancestors(state, &jail)?;
-    if let Some(errno) = creation_refusal(state, &jail, ancestors.as_slice()) {
-        return Ok(Outcome::Refused(errno));
-    }
-    create(state, jail, ancestors.as_slice(), limit)?;
-    Ok(Outcome::Done)
 }

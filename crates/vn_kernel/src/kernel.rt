@@ -12,7 +12,7 @@ use std::alloc::Global;
 use std::marker::Model;
 use vn_cells::{EVENTS_MAX, Event, History, Report};
 use vn_laws::{law_of_clean_histories, law_of_unread_histories};
-use vn_types::{NoMemory, Path};
+use vn_types::NoMemory;
 
 /// Why an event could not happen.
 #[derive(Drop)]
@@ -31,7 +31,7 @@ impl From<NoMemory> for StepFault {
     }
 }
 
-/// The stacks of all paths, and the history that led to them.
+/// Jails, stacks and pairs, and the history that led to them.
 #[derive(Drop)]
 pub struct Kernel {
     state: State,
@@ -40,13 +40,18 @@ pub struct Kernel {
 }
 
 impl Model for Kernel {
-    ghost use Rattle.vn_kernel.specs.Machines.{Machine, IsKept, kept};
+    ghost use Rattle.vn_kernel.specs.Fields.{fields};
+    ghost use Rattle.vn_kernel.specs.Machines.{IsHeld, Machine, kept};
+    ghost use Rattle.vn_kernel.specs.Worlds.{world_of};
 
     ghost Value = { Machine };
 
-    ghost view = { λ a. record { world = kept a.spent a.state; events = a.history } };
+    ghost view = { λ a. record {
+      world = kept a.spent (world_of (fields a.state));
+      events = a.history;
+    } };
 
-    ghost invariant = { λ a. IsKept (kept a.spent a.state) a.history };
+    ghost invariant = { λ a. IsHeld a.spent (fields a.state) a.history };
 }
 
 impl Kernel {
@@ -54,8 +59,7 @@ impl Kernel {
     pub fn new(alloc: Global) -> Result<Kernel, NoMemory>
         ensures opened { IfOk result (λ k. k ≡ opened) }
     {
-        let mut state = State::new(alloc);
-        state.construct(Path::host(alloc), None)?;
+        let state = State::new(alloc)?;
         Ok(Kernel {
             state,
             history: History::new(alloc),

@@ -1,14 +1,16 @@
-//! The kernel: the stacks of all paths and the history that led to them. Each operation is a step of the
-//! machine.
+//! The kernel: jails, transcripts, stacks and pairs by their numbers, and the history that led to them.
+//! Each operation is a step of the machine.
 #![tactic(auto)]
 
+mod construction;
 mod creation;
+mod ending;
 mod events;
 mod kernel;
-mod row;
+mod moves;
+mod pairs;
 mod state;
+mod tables;
+mod transcripts;
 
 pub use kernel::{Kernel, StepFault};
-
-#[cfg(test)]
-mod tests;

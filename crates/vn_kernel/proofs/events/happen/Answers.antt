@@ -1,4 +1,5 @@
-use Rattle.std.proofs.Common.{◌≡◌, OnOk, subst}
+use Rattle.std.proofs.lemmas.Result.{on_ok_weaker}
+use Rattle.vn_kernel.specs.Fields.{fields}
 use Rattle.vn_kernel.proofs.Commands.{built_of, only_commands, step_of, valid_of}
 use Rattle.vn_kernel.proofs.events.happen.Goals as goal
 
@@ -13,5 +14,6 @@ unreachable-requires c = only_commands c.args.event.now c.in_default.not-Cmd c.r
 
 pub returns : goal.returns
 returns c =
-    subst (λ w. OnOk c.run_command.result (c.run_command.new.state ≡ w))
-    (step_of c.args.state.now c.args.event.now _ _ _ c.in-Cmd.is) c.run_command.ensures
+    on_ok_weaker c.run_command.result
+    (step_of (fields c.args.state.now) (fields c.run_command.new.state) c.args.event.now c.in-Cmd.lane c.in-Cmd.path c.in-Cmd.command c.in-Cmd.is)
+    c.run_command.ensures

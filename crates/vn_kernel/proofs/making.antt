@@ -1,0 +1,9 @@
+pub mod Brought
+pub mod Names
+pub mod Made
+pub mod Steps
+pub mod Entries
+pub mod Found
+pub mod Units
+pub mod World
+pub mod Answered

@@ -1,0 +1,11 @@
+pub mod Called
+pub mod Faithful
+pub mod Halves
+pub mod Nets
+pub mod Moved
+pub mod Unmade
+pub mod Found
+pub mod Refused
+pub mod Answered
+pub mod Arms
+pub mod Ended
