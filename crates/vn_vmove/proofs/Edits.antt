@@ -30,15 +30,19 @@ some_map (Some x) P Q f holds = f x holds
 -- ---- one number has another pair, or none
 
 module _ (n : ℕ) (o : Option Pair) (old new : ℕ → Option Pair) (here : new n ≡ o) (changes : ChangesOnly n old new) where
+  -- what holds of a number
+  pub stays_so : (P : ℕ → Option Pair → Type 0) → (P n (old n) → P n o) → (m : ℕ) → P m (old m) → P m (new m)
+  stays_so P at m holds = ⊎_elim same other (cases_eq m n)
+    where
+      same : m ≡ n → P m (new m)
+      same e = subst (λ k. P k (new k)) (sym e) (subst (P n) (sym here) (at (subst (λ k. P k (old k)) e holds)))
+
+      other : m ≢ n → P m (new m)
+      other ne = subst (P m) (sym (changes.others m ne)) holds
+
   -- what holds of each pair
   pub each_pair : (P : ℕ → Pair → Type 0) → IfSome o (P n) → ((m : ℕ) → IfSome (old m) (P m)) → (m : ℕ) → IfSome (new m) (P m)
-  each_pair P at all m = ⊎_elim same other (cases_eq m n)
-    where
-      same : m ≡ n → IfSome (new m) (P m)
-      same e = subst (λ k. IfSome (new k) (P k)) (sym e) (subst (λ p. IfSome p (P n)) (sym here) at)
-
-      other : m ≢ n → IfSome (new m) (P m)
-      other ne = subst (λ p. IfSome p (P m)) (sym (changes.others m ne)) (all m)
+  each_pair P at all m = stays_so (λ k p. IfSome p (P k)) (λ before. at) m (all m)
 
   -- and for each half
   pub each_half : (P : HalfId → Pair → Type 0) → ((side : Side) → IfSome o (P (record { pair = n; side = side })))

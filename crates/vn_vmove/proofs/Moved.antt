@@ -1,9 +1,9 @@
 -- A half that moves in sound tables: they stay sound, and become what is said of a move.
-use Rattle.std.proofs.Common.{◌≡◌, ◌≢◌, ℕ, ◌==◌, Bool, true, false, not, List, [], ◌∷◌, ◌++◌, length, Option, Some, None, IfSome, refl, sym, ap, ap₂, ◌∙◌, subst, ⊎_elim}
+use Rattle.std.proofs.Common.{◌≡◌, ◌≢◌, ℕ, ◌==◌, Bool, true, false, not, List, [], ◌∷◌, ◌++◌, length, Option, Some, None, IfSome, refl, sym, ap, ap₂, ◌∙◌, subst}
 use Rattle.std.specs.Prelude.{if◌then◌else◌}
 use Rattle.std.specs.List.{list_all}
 use Rattle.std.specs.Option.{option_map}
-use Rattle.std.proofs.lemmas.Bool.{both_ways, cases_eq, eqb-true, not_from_true}
+use Rattle.std.proofs.lemmas.Bool.{both_ways, eqb-true, not_from_true}
 use Rattle.vn_types.specs.declared.interface.HalfId.{HalfId}
 use Rattle.vn_types.specs.declared.interface.IfName.{IfName}
 use Rattle.vn_types.specs.declared.interface.IfName.TheVariants.{Epair}
@@ -35,7 +35,7 @@ use Rattle.vn_vmove.specs.Sound.{IsHomedAs, IsSound, half_name, is_rightly_named
 use Rattle.vn_vmove.proofs.Listing.{count, cut, cut-other, put, put-other, put-own, what-last, what_of, without-none}
 use Rattle.vn_vmove.proofs.Left.{cut-gone, left-right, what-left}
 use Rattle.vn_vmove.proofs.Placed.{placed-name, placed-queue, placed-stands}
-use Rattle.vn_vmove.proofs.Edits.{cut-sound, each_pair, kept_of, linked, put-sound, reserved-same, some_map}
+use Rattle.vn_vmove.proofs.Edits.{cut-sound, each_pair, kept_of, linked, put-sound, reserved-same, some_map, stays_so}
 use Rattle.vn_vmove.proofs.Forgotten.{off}
 use Rattle.vn_vmove.proofs.Deciding.{apart, eq-sym, name-refl, other_side, pick}
 
@@ -138,16 +138,8 @@ module _ {t : Tables} (s : IsSound t) (h : HalfId) (from to : ℕ) (pair : Pair)
   reserved_after q n = reserved-same (held after q) (held t q) (reserved_so q) n
 
   homed_after : (q : ℕ) (n : IfName) (side : Side) (m : ℕ) → IsHomedAs q n side (pair_at t m) → IsHomedAs q n side (pair_at after m)
-  homed_after q n side m home = ⊎_elim same other (cases_eq m h.pair)
-    where
-      same : m ≡ h.pair → IsHomedAs q n side (pair_at after m)
-      same e =
-          let own : IsHomedAs q n side (Some pair) = subst (IsHomedAs q n side) (ap (pair_at t) e ∙ is) home in
-          subst (λ k. IsHomedAs q n side (pair_at after k)) (sym e) (subst (IsHomedAs q n side) (sym placed)
-          (placed-name (λ at_home unit. (at_home ≡ q) × (Epair unit side ≡ n)) h.side to pair own))
-
-      other : m ≢ h.pair → IsHomedAs q n side (pair_at after m)
-      other ne = subst (IsHomedAs q n side) (sym (others.others m ne)) home
+  homed_after q n side = stays_so h.pair (Some (placed_at h.side to pair)) (pair_at t) (pair_of pairs) placed others (λ m. IsHomedAs q n side)
+      (λ home. placed-name (λ at_home unit. (at_home ≡ q) × (Epair unit side ≡ n)) h.side to pair (subst (IsHomedAs q n side) is home))
 
   reserved : (q : ℕ) (n : IfName) → IfSome (reserved_by n (held after q)) (λ g. IsHomedAs q n g.side (pair_at after g.pair))
   reserved q n = some_map (reserved_by n (held after q)) (λ g. IsHomedAs q n g.side (pair_at t g.pair)) (λ g. IsHomedAs q n g.side (pair_at after g.pair))

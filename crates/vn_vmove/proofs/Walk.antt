@@ -18,22 +18,28 @@ Address = AddrOf HalfId
 
 -- ---- what is left to look at
 
-module _ {X : Type 0} (test : X → Bool) where
-  -- at a place
-  pub left-here : (xs : List X) (place : ℕ) (x : X) → slice_get xs place ≡ Some x → list_any test (drop place xs) ≡ (test x || list_any test (drop (place + 1) xs))
-  left-here xs place x is =
-      ap (list_any test) (drop-cons xs place x (slice_get_within xs place x is))
-      ∙ (λ i. test (get_or_from_slice_get xs place x x is i) || list_any test (drop (more i) xs))
-    where
-      more : suc place ≡ place + 1
-      more = omega arith
+-- from a place on
+pub drop_here : {X : Type 0} (xs : List X) (place : ℕ) (x : X) → slice_get xs place ≡ Some x → drop place xs ≡ x ∷ drop (place + 1) xs
+drop_here xs place x is =
+    drop-cons xs place x (slice_get_within xs place x is) ∙ (λ i. get_or_from_slice_get xs place x x is i ∷ drop (more i) xs)
+  where
+    more : suc place ≡ place + 1
+    more = omega arith
 
-  -- past the last
+-- past the last
+pub drop_none : {X : Type 0} (xs : List X) (place : ℕ) → slice_get xs place ≡ None → drop place xs ≡ []
+drop_none [] zero is = refl
+drop_none [] (suc place) is = refl
+drop_none (x ∷ xs) zero is = cc
+drop_none (x ∷ xs) (suc place) is = drop_none xs place is
+
+module _ {X : Type 0} (test : X → Bool) where
+  -- whether one of them is so
+  pub left-here : (xs : List X) (place : ℕ) (x : X) → slice_get xs place ≡ Some x → list_any test (drop place xs) ≡ (test x || list_any test (drop (place + 1) xs))
+  left-here xs place x is = ap (list_any test) (drop_here xs place x is)
+
   pub left-none : (xs : List X) (place : ℕ) → slice_get xs place ≡ None → list_any test (drop place xs) ≡ false
-  left-none [] zero is = refl
-  left-none [] (suc place) is = refl
-  left-none (x ∷ xs) zero is = cc
-  left-none (x ∷ xs) (suc place) is = left-none xs place is
+  left-none xs place is = ap (list_any test) (drop_none xs place is)
 
 -- ---- how far the walk goes
 
