@@ -1,10 +1,8 @@
 -- The addresses of a half are announced one after another.
-use Rattle.std.proofs.Common.{◌≡◌, ℕ, ◌+◌, ◌-◌, ◌≤◌, ◌<◌, ◌^◌, suc, Bool, true, false, cond, List, [], ◌∷◌, length, take, drop, Some, None, refl, sym, ap, subst, ◌∙◌, ⊎_elim, arith}
+use Rattle.std.proofs.Common.{◌≡◌, ℕ, ◌+◌, ◌-◌, ◌≤◌, ◌<◌, ◌^◌, Bool, true, false, cond, List, ◌∷◌, length, take, drop, Some, None, refl, sym, ap, subst, ◌∙◌, arith}
 use Rattle.std.specs.Prelude.{filter, slice_get}
 use Rattle.std.specs.List.{list_all}
-use Rattle.std.proofs.lemmas.Option.{get_or_from_slice_get, slice_get_cases, slice_get_within}
-use Rattle.std.proofs.Math.ListN.{drop_of_length-le}
-use Rattle.std.proofs.Math.Seq.{drop-cons}
+use Rattle.std.proofs.lemmas.Option.{slice_get_within}
 use Rattle.vn_types.specs.declared.interface.HalfId.{HalfId}
 use Rattle.vn_types.specs.declared.interface.IfOf.TheVariants.{Half}
 use Rattle.vn_types.specs.Interfaces.{half_id_eq}
@@ -24,10 +22,10 @@ use Rattle.vn_vmove.specs.Parts.{parts}
 use Rattle.vn_vmove.specs.Sound.{IsSound}
 use Rattle.vn_vmove.specs.Tallies.{drops_of}
 use Rattle.vn_vmove.proofs.Founded.{sound-addresses}
-use Rattle.vn_vmove.proofs.Walk.{few-seen, is_word, seen-more}
+use Rattle.vn_vmove.proofs.Walk.{drop_here, drop_none, few-seen, is_word, seen-more}
 use Rattle.vn_ipcore.specs.Announcing.{announced_of}
 use Rattle.vn_ipcore.specs.Scenes.{HasRoom, HasRoomFor, Replaces, scene_of}
-use Rattle.vn_ipcore.proofs.Back.{replaces_as, replaces_same, replaces_then}
+use Rattle.vn_ipcore.proofs.Back.{goes_on, replaces_as, replaces_same}
 
 abbrev Addresses : Type 0
 Addresses = List (AddrOf HalfId)
@@ -56,13 +54,6 @@ own-grows : (h : HalfId) (a : AddrOf HalfId) (s : SceneOf HalfId) → Grows 1 0 
 own-grows h a s = grows-either s (announced half_id_eq h a.ip s) s (is_on half_id_eq (Half h) a) (announced-grows half_id_eq h a.ip s)
     (grows-more s.parts s.parts (omega arith) (omega arith) (grows-refl s.parts))
 
-drop-here : (xs : Addresses) (place : ℕ) (a : AddrOf HalfId) → slice_get xs place ≡ Some a → drop place xs ≡ a ∷ drop (place + 1) xs
-drop-here xs place a is =
-    drop-cons xs place a (slice_get_within xs place a is) ∙ (λ i. get_or_from_slice_get xs place a a is i ∷ drop (more i) xs)
-  where
-    more : suc place ≡ place + 1
-    more = omega arith
-
 own-first : (h : HalfId) (a : AddrOf HalfId) (rest : Addresses) (s : SceneOf HalfId) → all_announced half_id_eq h (own h rest) (announced_of h a s) ≡ all_announced half_id_eq h (own h (a ∷ rest)) s
 unfolding all_announced
 own-first h a rest s = by (is_on half_id_eq (Half h) a)
@@ -85,11 +76,11 @@ module _ {q : ℕ} {h : HalfId} {place : ℕ} {start now : Tables} (way : IsOnWa
 
     pub one_more : IsOnWay q h (place + 1) start later
     one_more = record {
-      replaces = replaces_then q (scene_of now q) (scene_of later q) start now later way.replaces (replaces_as (announced_of h a (scene_of now q)) (scene_of later q) (sym more.here) more);
+      replaces = goes_on way.replaces more;
       addresses = grows.addresses ∙ way.addresses;
       left = ap (all_announced half_id_eq h (own h (drop (place + 1) addresses_of))) more.here
           ∙ own-first h a (drop (place + 1) addresses_of) (scene_of now q)
-          ∙ ap (λ xs. all_announced half_id_eq h (own h xs) (scene_of now q)) (sym (drop-here addresses_of place a is_there))
+          ∙ ap (λ xs. all_announced half_id_eq h (own h xs) (scene_of now q)) (sym (drop_here addresses_of place a is_there))
           ∙ way.left;
       counts = counts-then (parts start q).drops (parts now q).drops (parts later q).drops way.counts grows.drops;
       seen = seen-more addresses_of place a is_there way.seen word;
@@ -99,13 +90,7 @@ module _ {q : ℕ} {h : HalfId} {place : ℕ} {start now : Tables} (way : IsOnWa
   pub at_last : slice_get (parts now q).addresses place ≡ None → Replaces q (all_announced half_id_eq h (own h addresses_of) (scene_of start q)) start now
   unfolding all_announced
   at_last none = replaces_as (scene_of now q) (all_announced half_id_eq h (own h addresses_of) (scene_of start q))
-      (ap (λ xs. all_announced half_id_eq h (own h xs) (scene_of now q)) (sym (past addresses_of place (ap (λ xs. slice_get xs place) (sym way.addresses) ∙ none))) ∙ way.left) way.replaces
-    where
-      past : (xs : Addresses) (n : ℕ) → slice_get xs n ≡ None → drop n xs ≡ []
-      past xs n none = ⊎_elim (λ w. absurd (some_none w.0 (sym w.2 ∙ none))) (λ e. drop_of_length-le xs e.0) (slice_get_cases xs n).1
-        where
-          some_none : (x : AddrOf HalfId) → Some x ≡ None → ⊥
-          some_none x e = cc
+      (ap (λ xs. all_announced half_id_eq h (own h xs) (scene_of now q)) (sym (drop_none addresses_of place (ap (λ xs. slice_get xs place) (sym way.addresses) ∙ none))) ∙ way.left) way.replaces
 
 -- ---- what is counted
 

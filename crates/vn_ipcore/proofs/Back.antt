@@ -17,7 +17,7 @@ use Rattle.vn_vmove.specs.Nets.{Becomes, net_of}
 use Rattle.vn_vmove.specs.Parts.{lives, pair_at, parts}
 use Rattle.vn_vmove.specs.Sound.{IsSound, stands_at}
 use Rattle.vn_vmove.proofs.Deciding.{pick}
-use Rattle.vn_ipcore.specs.Scenes.{Replaces, end_after, link_by, link_with, pair_after, parts_after, placed, scene_of, with_link}
+use Rattle.vn_ipcore.specs.Scenes.{Replaces, StandsIn, end_after, link_by, link_with, pair_after, parts_after, placed, scene_of, with_link}
 use Rattle.vn_ipcore.proofs.Seen.{link_of-scene}
 
 -- ---- what a call in one stack may change
@@ -155,6 +155,10 @@ module _ (q : ℕ) (r s : SceneOf HalfId) (t u v : Tables) where
   pub replaces_then : Replaces q r t u → Replaces q s u v → Replaces q s t v
   replaces_then one two = record { becomes = becomes_then one.becomes two.becomes; here = two.here; sound = two.sound }
 
+-- what was changed up to here, and one rule more
+pub goes_on : {t u v : Tables} {q : ℕ} {s : SceneOf HalfId} → Replaces q (scene_of u q) t u → Replaces q s u v → Replaces q (scene_of v q) t v
+goes_on {t} {u} {v} {q} {s} before more = replaces_then q (scene_of u q) (scene_of v q) t u v before (replaces_as s (scene_of v q) (sym more.here) more)
+
 -- ---- who stands where is as it was
 
 end-at : (q : ℕ) (s : SceneOf HalfId) (h : HalfId) (end : End) → (end_after q s h end).at ≡ end.at
@@ -172,3 +176,6 @@ stands_then {t} {u} {q} {s} one r h = ap (stands_at r h.side) (one.becomes.pairs
     by side None = refl
     by A (Some pair) = ap (λ n. n == r) (end-at q s (half_on A h.pair) pair.a)
     by B (Some pair) = ap (λ n. n == r) (end-at q s (half_on B h.pair) pair.b)
+
+pub still_there : {t u : Tables} {q : ℕ} {s : SceneOf HalfId} {h : HalfId} → Replaces q s t u → StandsIn q h t → StandsIn q h u
+still_there {q = q} {h = h} one here = record { sound = one.sound; stands = stands_then one q h ∙ here.stands }

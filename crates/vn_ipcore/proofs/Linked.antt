@@ -1,8 +1,7 @@
 -- A half that stands in the stack changes: the scene, and that all stays sound.
-use Rattle.std.proofs.Common.{◌≡◌, ◌≢◌, ℕ, ◌==◌, Bool, true, false, cond, List, length, map, Option, Some, IfSome, refl, sym, ap, ◌∙◌, subst, ⊎_elim}
+use Rattle.std.proofs.Common.{◌≡◌, ℕ, ◌==◌, Bool, true, false, cond, List, length, map, Option, Some, IfSome, refl, sym, ap, ◌∙◌, subst}
 use Rattle.std.specs.Prelude.{count_by}
 use Rattle.std.specs.List.{list_all}
-use Rattle.std.proofs.lemmas.Bool.{cases_eq}
 use Rattle.std.proofs.lemmas.Simd.{map-map}
 use Rattle.vn_types.specs.declared.interface.HalfId.{HalfId}
 use Rattle.vn_types.specs.declared.interface.IfName.{IfName}
@@ -26,7 +25,7 @@ use Rattle.vn_vmove.specs.Moves.{half_on}
 use Rattle.vn_vmove.specs.Parts.{held, lives, pair_at, parts}
 use Rattle.vn_vmove.specs.Sound.{IsHomedAs, IsSound, half_name, is_rightly_named, name_in, stands_at, times, times_listed}
 use Rattle.vn_vmove.proofs.Deciding.{other_side}
-use Rattle.vn_vmove.proofs.Edits.{each_pair, kept_of, some_map}
+use Rattle.vn_vmove.proofs.Edits.{each_pair, kept_of, some_map, stays_so}
 use Rattle.vn_ipcore.specs.Scenes.{Replaces, halves_of, link_by, link_with, scene_of}
 use Rattle.vn_ipcore.proofs.Back.{IsNear, Near, NearEnd, NearPair, is_near, near_end, replaces}
 use Rattle.vn_ipcore.proofs.Seen.{link-half}
@@ -51,7 +50,7 @@ each_end B A end pair P new old = old
 each_end B B end pair P new old = new
 
 -- its home and its unit stay
-named : (P : ℕ → ℕ → Type 0) (side : Side) (end : End) (pair : Pair) → P pair.home pair.unit → P (with_end side end pair).home (with_end side end pair).unit
+pub named : (P : ℕ → ℕ → Type 0) (side : Side) (end : End) (pair : Pair) → P pair.home pair.unit → P (with_end side end pair).home (with_end side end pair).unit
 named P A end pair holds = holds
 named P B end pair holds = holds
 
@@ -108,16 +107,8 @@ module _ {t : Tables} (s : IsSound t) (h : HalfId) (pair : Pair) (is : pair_at t
   names q = (λ i. list_all (λ (a : Attached). ifname_eq a.name (if_name (λ g. name_kept g i) a.what)) (held t q).attached) ∙ s.names q
 
   homed_after : (q : ℕ) (n : IfName) (side : Side) (m : ℕ) → IsHomedAs q n side (pair_at t m) → IsHomedAs q n side (pair_at after m)
-  homed_after q n side m home = ⊎_elim same other (cases_eq m h.pair)
-    where
-      same : m ≡ h.pair → IsHomedAs q n side (pair_at after m)
-      same e =
-          let own : IsHomedAs q n side (Some pair) = subst (IsHomedAs q n side) (ap (pair_at t) e ∙ is) home in
-          subst (λ k. IsHomedAs q n side (pair_at after k)) (sym e) (subst (IsHomedAs q n side) (sym here)
-          (named (λ at_home unit. (at_home ≡ q) × (Epair unit side ≡ n)) h.side end pair own))
-
-      other : m ≢ h.pair → IsHomedAs q n side (pair_at after m)
-      other ne = subst (IsHomedAs q n side) (sym (others.others m ne)) home
+  homed_after q n side = stays_so h.pair (Some changed) (pair_at t) (number_of new) here others (λ m. IsHomedAs q n side)
+      (λ home. named (λ at_home unit. (at_home ≡ q) × (Epair unit side ≡ n)) h.side end pair (subst (IsHomedAs q n side) is home))
 
   reserved : (q : ℕ) (n : IfName) → IfSome (reserved_by n (held t q)) (λ g. IsHomedAs q n g.side (pair_at after g.pair))
   reserved q n = some_map (reserved_by n (held t q)) (λ g. IsHomedAs q n g.side (pair_at t g.pair)) (λ g. IsHomedAs q n g.side (pair_at after g.pair))
@@ -144,7 +135,8 @@ module _ {t : Tables} (s : IsSound t) (h : HalfId) (pair : Pair) (is : pair_at t
   queues : (g : HalfId) → IfSome (pair_at after g.pair) (is_short g)
   queues g = each is_short g.side (each_end g.side h.side end pair (λ d e. is_queue e.sent ≡ true) short (before is_short g.side s.queues)) s.queues g.pair
 
-  sound_linked : IsSound after
+  -- another end that stands where the one before stood leaves the tables sound
+  pub sound_linked : IsSound after
   sound_linked = record {
     tables = s.tables;
     bare = s.bare;
@@ -174,14 +166,8 @@ module _ {t : Tables} (s : IsSound t) (h : HalfId) (pair : Pair) (is : pair_at t
     }
 
     near_at : (n : ℕ) → IsNear q (pair_at t n) (pair_at after n)
-    near_at n = ⊎_elim same other (cases_eq n h.pair)
-      where
-        same : n ≡ h.pair → IsNear q (pair_at t n) (pair_at after n)
-        same e = subst (λ k. IsNear q (pair_at t k) (pair_at after k)) (sym e)
-            (subst (λ o. IsNear q o (pair_at after h.pair)) (sym is) (subst (λ o. IsNear q (Some pair) o) (sym here) near_pair))
-
-        other : n ≢ h.pair → IsNear q (pair_at t n) (pair_at after n)
-        other ne = subst (λ o. IsNear q (pair_at t n) o) (sym (others.others n ne)) (is_near q (pair_at t n))
+    near_at n = stays_so h.pair (Some changed) (pair_at t) (number_of new) here others (λ m. IsNear q (pair_at t m))
+        (λ same. subst (λ o. IsNear q o (Some changed)) (sym is) near_pair) n (is_near q (pair_at t n))
 
     near : Near q t after
     near = record { others = unchanged q (parts t); interfaces = refl; pairs = near_at; lives = λ r. refl; numbers = numbers }

@@ -1,5 +1,5 @@
 -- Entries and timers of a stack change by a rule, and frames go out.
-use Rattle.std.proofs.Common.{◌≡◌, ◌≢◌, ℕ, ◌+◌, ◌≤◌, ◌<◌, ◌^◌, Bool, true, false, not, ◌||◌, ◌&&◌, ◌==◌, cond, List, [], ◌∷◌, length, drop, Option, Some, None, Result, Ok, Err, refl, sym, ap, subst, ◌∙◌, ⊎_elim, arith}
+use Rattle.std.proofs.Common.{◌≡◌, ◌≢◌, ℕ, ◌≤◌, Bool, true, false, ◌&&◌, ◌==◌, List, ◌∷◌, length, drop, Some, None, refl, sym, ap, subst, ◌∙◌, ⊎_elim, arith}
 use Rattle.std.specs.Prelude.{slice_get}
 use Rattle.std.proofs.lemmas.Bool.{cases_eq, not-false, or_parts}
 use Rattle.vn_types.specs.declared.address.Ip4.{Ip4}
@@ -9,26 +9,19 @@ use Rattle.vn_types.specs.declared.interface.IfOf.TheVariants.{Half}
 use Rattle.vn_types.specs.Interfaces.{half_id_eq}
 use Rattle.vn_types.specs.PerStack.{ChangesOnly}
 use Rattle.vn_types.proofs.InterfaceNames.{half_id_eq-Decides}
-use Rattle.vn_types.proofs.Options.{some_same}
 use Rattle.vn_rules.specs.declared.parts.PartsOf.{PartsOf}
 use Rattle.vn_rules.specs.declared.timer.TimersOf.{TimersOf}
 use Rattle.vn_rules.specs.Addresses.{local, on_interface}
-use Rattle.vn_rules.specs.Interfaces.{is_among}
 use Rattle.vn_rules.specs.Resolution.{after_input, released}
 use Rattle.vn_rules.specs.Routes.{covers}
-use Rattle.vn_rules.specs.Rules.{Common}
 use Rattle.vn_rules.specs.Scenes.{SceneOf}
 use Rattle.vn_rules.specs.declared.arp.TheConstants.{HELD_MAX}
 use Rattle.vn_rules.specs.Soundness.{is_sound_parts, times_arp}
 use Rattle.vn_rules.proofs.SoundFacts.{facts_from_sound}
 use Rattle.vn_rules.proofs.ArpKept.{after_input-sound}
-use Rattle.vn_packets.specs.declared.tally.Tally.{Tally}
-use Rattle.vn_link.specs.declared.arp.ArpBad.{ArpBad}
 use Rattle.vn_link.specs.declared.arp.ArpPacket.{ArpPacket}
-use Rattle.vn_link.specs.Packets.{arp_of as packet_in}
-use Rattle.vn_packets.specs.ArpPackets.{arp_heard, arp_read, arp_received, is_stranger, is_target, learnt, mac_of, replied_if, reply, request_op, sent_arp, sent_datagram, sent_datagrams, waiting}
-use Rattle.vn_packets.specs.declared.tally.Tally.TheVariants.{Arp}
-use Rattle.vn_packets.specs.Drops.{lost, on_parts}
+use Rattle.vn_packets.specs.ArpPackets.{arp_heard, is_stranger, is_target, learnt, mac_of, replied_if, reply, request_op, sent_arp, sent_datagram, sent_datagrams, waiting}
+use Rattle.vn_packets.specs.Drops.{on_parts}
 use Rattle.vn_packets.specs.Growth.{Grows}
 use Rattle.vn_packets.proofs.ArpPacketGrowth.{sent_datagram-grows, sent_datagrams-grows, waiting-few}
 use Rattle.vn_arp.specs.Kept.{Follows, KeptOf, KnowsArms, entries_of}
@@ -40,9 +33,10 @@ use Rattle.vn_vmove.specs.Parts.{lives, pair_at, parts}
 use Rattle.vn_vmove.specs.Sound.{IsSound, stands_at}
 use Rattle.vn_vmove.specs.Tallies.{drops_of}
 use Rattle.vn_vmove.proofs.Names.{listed-stands}
+use Rattle.vn_vmove.proofs.Walk.{drop_here, drop_none}
 use Rattle.vn_ipcore.specs.Scenes.{HasRoom, HasRoomFor, Replaces, scene_of}
 use Rattle.vn_ipcore.proofs.Announced.{counts_rise}
-use Rattle.vn_ipcore.proofs.Back.{replaces_as, replaces_same, replaces_then}
+use Rattle.vn_ipcore.proofs.Back.{goes_on, replaces_as, replaces_same, replaces_then}
 use Rattle.vn_ipcore.proofs.Parted.{Parted, replaces_parted}
 use Rattle.vn_ipcore.proofs.Sent.{lives-where}
 
@@ -51,22 +45,23 @@ Parts = PartsOf HalfId
 
 -- ---- entries and timers
 
+-- the tables with other entries and timers
+abbrev pub resolved : Tables → List (List (KeptOf HalfId)) → List (TimersOf HalfId) → Tables
+resolved t arp wheel = record t { arp = arp; wheel = wheel }
+
 module _ {t : Tables} (s : IsSound t) (q : ℕ) (alive : lives t q ≡ true) (rule : Parts → Parts) (arp : List (List (KeptOf HalfId))) (wheel : List (TimersOf HalfId))
     (follows : Follows rule (arp_of t.arp q) (timers_of t.wheel q) (arp_of arp q) (timers_of wheel q)) (knows : KnowsArms half_id_eq (arp_of arp q) (timers_of wheel q))
     (others : ChangesOnly q (arp_of t.arp) (arp_of arp)) (other_timers : ChangesOnly q (timers_of t.wheel) (timers_of wheel)) where
-  abbrev after : Tables
-  after = record t { arp = arp; wheel = wheel }
-
-  arms : (r : ℕ) → KnowsTimers t r → KnowsTimers after r
+  arms : (r : ℕ) → KnowsTimers t r → KnowsTimers (resolved t arp wheel) r
   arms r known = ⊎_elim at off (cases_eq r q)
     where
-      at : r ≡ q → KnowsTimers after r
-      at is = subst (KnowsTimers after) (sym is) knows
+      at : r ≡ q → KnowsTimers (resolved t arp wheel) r
+      at is = subst (KnowsTimers (resolved t arp wheel)) (sym is) knows
 
-      off : r ≢ q → KnowsTimers after r
+      off : r ≢ q → KnowsTimers (resolved t arp wheel) r
       off ne = subst (λ (x : List (KeptOf HalfId) × TimersOf HalfId). KnowsArms half_id_eq x.0 x.1) (λ i. (sym (others.others r ne) i, sym (other_timers.others r ne) i)) known
 
-  parted : Parted t after q
+  parted : Parted t (resolved t arp wheel) q
   parted = record {
     others = record { others = λ r ne i. record (parts t r) { arp = entries_of (others.others r ne i); timers = other_timers.others r ne i } };
     lives = λ r. refl;
@@ -76,8 +71,8 @@ module _ {t : Tables} (s : IsSound t) (q : ℕ) (alive : lives t q ≡ true) (ru
     arms = arms;
   }
 
-  pub replaces_resolved : is_sound_parts half_id_eq (rule (parts t q)) ≡ true → Replaces q (on_parts rule (scene_of t q)) t after
-  replaces_resolved keeps = replaces_parted s after q alive parted rule (follows.parts (parts t q)) keeps
+  pub replaces_resolved : is_sound_parts half_id_eq (rule (parts t q)) ≡ true → Replaces q (on_parts rule (scene_of t q)) t (resolved t arp wheel)
+  replaces_resolved keeps = replaces_parted s (resolved t arp wheel) q alive parted rule (follows.parts (parts t q)) keeps
 
 -- what is learnt of a sender on a network of the half leaves the tables sound
 pub learnt-sound : {t : Tables} (s : IsSound t) (q : ℕ) (h : HalfId) → stands_at q h.side (pair_at t h.pair) ≡ true → (ip : Ip4) → is_stranger half_id_eq h ip (parts t q) ≡ false
@@ -97,30 +92,22 @@ pub record IsSending (q : ℕ) (h : HalfId) (to : Mac) (all : List (List ℕ)) (
 pub sending_first : {t : Tables} → IsSound t → (q : ℕ) (h : HalfId) (to : Mac) (all : List (List ℕ)) → HasRoomFor (length all) t q → IsSending q h to all all t t
 sending_first s q h to all room = record { replaces = replaces_same s q; same = refl; room = room }
 
-pub front : (xs : List (List ℕ)) (x : List ℕ) → slice_get xs 0 ≡ Some x → xs ≡ x ∷ drop 1 xs
-front [] x e = cc
-front (y ∷ xs) x e = ap (λ z. z ∷ xs) (some_same y x e)
-
-no_front : (xs : List (List ℕ)) → slice_get xs 0 ≡ None → xs ≡ []
-no_front [] e = refl
-no_front (y ∷ xs) e = cc
-
 module _ {q : ℕ} {h : HalfId} {to : Mac} {all left : List (List ℕ)} {start now : Tables} (way : IsSending q h to all left start now) where
   pub sending_room : (x : List ℕ) → slice_get left 0 ≡ Some x → HasRoomFor 1 now q
   sending_room x is what =
       let room = way.room what in
-      let longer : length left ≡ length (x ∷ drop 1 left) = ap length (front left x is) in
+      let longer : length left ≡ length (x ∷ drop 1 left) = ap length (drop_here left 0 x is) in
       omega (arith, room, longer)
 
   pub sending_more : (later : Tables) (x : List ℕ) → slice_get left 0 ≡ Some x → Replaces q (sent_datagram half_id_eq h to x (scene_of now q)) now later → IsSending q h to all (drop 1 left) start later
   unfolding sent_datagrams scene_of
   sending_more later x is more = record {
-    replaces = replaces_then q (scene_of now q) (scene_of later q) start now later way.replaces (replaces_as (sent_datagram half_id_eq h to x (scene_of now q)) (scene_of later q) (sym more.here) more);
-    same = ap (sent_datagrams half_id_eq h to (drop 1 left)) more.here ∙ ap (λ xs. sent_datagrams half_id_eq h to xs (scene_of now q)) (sym (front left x is)) ∙ way.same;
+    replaces = goes_on way.replaces more;
+    same = ap (sent_datagrams half_id_eq h to (drop 1 left)) more.here ∙ ap (λ xs. sent_datagrams half_id_eq h to xs (scene_of now q)) (sym (drop_here left 0 x is)) ∙ way.same;
     room = λ what.
         let rise = counts_rise 1 (parts now q).drops (parts later q).drops grows.drops what in
         let room = way.room what in
-        let longer : length left ≡ length (x ∷ drop 1 left) = ap length (front left x is) in
+        let longer : length left ≡ length (x ∷ drop 1 left) = ap length (drop_here left 0 x is) in
         omega (arith, rise, room, longer);
   }
     where
@@ -130,7 +117,7 @@ module _ {q : ℕ} {h : HalfId} {to : Mac} {all left : List (List ℕ)} {start n
   pub sending_last : slice_get left 0 ≡ None → Replaces q (sent_datagrams half_id_eq h to all (scene_of start q)) start now
   unfolding sent_datagrams
   sending_last none = replaces_as (scene_of now q) (sent_datagrams half_id_eq h to all (scene_of start q))
-      (ap (λ xs. sent_datagrams half_id_eq h to xs (scene_of now q)) (sym (no_front left none)) ∙ way.same) way.replaces
+      (ap (λ xs. sent_datagrams half_id_eq h to xs (scene_of now q)) (sym (drop_none left 0 none)) ∙ way.same) way.replaces
 
 -- ---- a sender is learnt
 
@@ -138,15 +125,9 @@ module _ {t : Tables} (s : IsSound t) (q : ℕ) (h : HalfId) (stands : stands_at
     (known : is_stranger half_id_eq h packet.spa (parts t q) ≡ false) (arp : List (List (KeptOf HalfId))) (wheel : List (TimersOf HalfId))
     (follows : Follows (after_input half_id_eq now h packet.spa packet.sha is_mine) (arp_of t.arp q) (timers_of t.wheel q) (arp_of arp q) (timers_of wheel q))
     (knows : KnowsArms half_id_eq (arp_of arp q) (timers_of wheel q)) (others : ChangesOnly q (arp_of t.arp) (arp_of arp)) (other_timers : ChangesOnly q (timers_of t.wheel) (timers_of wheel)) where
-  abbrev learnt_in : Tables
-  learnt_in = record t { arp = arp; wheel = wheel }
-
-  pub replaces_learnt : Replaces q (on_parts (after_input half_id_eq now h packet.spa packet.sha is_mine) (scene_of t q)) t learnt_in
+  pub replaces_learnt : Replaces q (on_parts (after_input half_id_eq now h packet.spa packet.sha is_mine) (scene_of t q)) t (resolved t arp wheel)
   replaces_learnt = replaces_resolved s q (lives-where s q h stands) (after_input half_id_eq now h packet.spa packet.sha is_mine) arp wheel follows knows others other_timers
       (learnt-sound s q h stands packet.spa known now packet.sha is_mine)
-
-  pub learnt-stands : stands_at q h.side (pair_at learnt_in h.pair) ≡ true
-  learnt-stands = stands
 
 module _ {t : Tables} (s : IsSound t) (q : ℕ) (h : HalfId) (stands : stands_at q h.side (pair_at t h.pair) ≡ true) (ip : Ip4) (room : HasRoom t q)
     (release : List (List ℕ)) (is : release ≡ released half_id_eq h ip (parts t q).arp) where

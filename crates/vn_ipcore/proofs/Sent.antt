@@ -21,7 +21,7 @@ use Rattle.vn_vmove.specs.Sound.{IsSound, stands_at}
 use Rattle.vn_vmove.specs.Tallies.{after_count, counts_of, of as tallies_of}
 use Rattle.vn_vmove.proofs.Names.{stands-pair}
 use Rattle.vn_vmove.proofs.Steps.{some-of}
-use Rattle.vn_ipcore.specs.Scenes.{Replaces, link_by, link_with, scene_of}
+use Rattle.vn_ipcore.specs.Scenes.{Replaces, StandsIn, link_by, link_with, scene_of}
 use Rattle.vn_ipcore.proofs.Back.{replaces_as}
 use Rattle.vn_ipcore.proofs.Linked.{replaces_linked}
 use Rattle.vn_ipcore.proofs.Seen.{link_of-scene}
@@ -75,6 +75,13 @@ pub lives-where : {t : Tables} → IsSound t → (q : ℕ) (h : HalfId) → stan
 lives-where {t} s q h stands =
     let there = stands-pair q h.side (pair_at t h.pair) stands in
     ap (lives t) (sym there.2) ∙ subst (λ o. IfSome o (λ pair. lives t (end_of h.side pair).at ≡ true)) there.1 (s.places h)
+
+-- both, of a half that stands in the stack
+pub half_exists : {t : Tables} {q : ℕ} {h : HalfId} → StandsIn q h t → IsSome (pair_at t h.pair)
+half_exists {t} {q} {h} here = pair-stands q h (pair_at t h.pair) here.stands
+
+pub stack_lives : {t : Tables} {q : ℕ} {h : HalfId} → StandsIn q h t → lives t q ≡ true
+stack_lives {t} {q} {h} here = lives-where here.sound q h here.stands
 
 module _ {t : Tables} (s : IsSound t) (q : ℕ) (h : HalfId) (stands : stands_at q h.side (pair_at t h.pair) ≡ true) where
   abbrev half : End

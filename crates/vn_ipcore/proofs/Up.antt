@@ -12,9 +12,9 @@ use Rattle.vn_epair.specs.Pairs.{end_of, half_of, of as number_of, pair_of, with
 use Rattle.vn_vmove.specs.declared.tables.Tables.{Tables}
 use Rattle.vn_vmove.specs.Parts.{pair_at, parts}
 use Rattle.vn_vmove.specs.Sound.{IsSound, stands_at}
-use Rattle.vn_ipcore.specs.Scenes.{Replaces, scene_of}
+use Rattle.vn_ipcore.specs.Scenes.{Replaces, StandsIn, scene_of}
 use Rattle.vn_ipcore.proofs.Announced.{own}
-use Rattle.vn_ipcore.proofs.Back.{replaces_as, replaces_then, stands_then}
+use Rattle.vn_ipcore.proofs.Back.{replaces_as, replaces_then, still_there}
 use Rattle.vn_ipcore.proofs.Sent.{link_is, replaces_half, there}
 
 module _ {t : Tables} (s : IsSound t) (q : ℕ) (h : HalfId) (stands : stands_at q h.side (pair_at t h.pair) ≡ true)
@@ -32,11 +32,8 @@ module _ {t : Tables} (s : IsSound t) (q : ℕ) (h : HalfId) (stands : stands_at
   replaces_set : Replaces q (set up) t (record t { pairs = new })
   replaces_set = replaces_half s q h stands new (record (half_of t.pairs h) { up = up }) here others numbers (λ (l : LinkOf HalfId). record l { up = up }) refl short refl
 
-  pub set-sound : IsSound (record t { pairs = new })
-  set-sound = replaces_set.sound
-
-  pub set-stands : stands_at q h.side (number_of new h.pair) ≡ true
-  set-stands = stands_then replaces_set q h ∙ stands
+  pub set_there : StandsIn q h (record t { pairs = new })
+  set_there = still_there replaces_set (record { sound = s; stands = stands })
 
   pub replaces_by_down : up ≡ false → Replaces q (down_rule half_id_eq (Some (Half h)) scene).otherwise.left t (record t { pairs = new })
   unfolding set_up

@@ -1,5 +1,5 @@
 -- The scene of one stack in the tables of all, and how it goes back.
-use Rattle.std.specs.Prelude.{◌≡◌, ℕ, ◌+◌, ◌<◌, ◌^◌, ◌==◌, List, map, Option, Some, None, option_map, if◌then◌else◌}
+use Rattle.std.specs.Prelude.{◌≡◌, ℕ, ◌+◌, ◌<◌, ◌^◌, ◌==◌, true, List, map, Option, Some, None, option_map, if◌then◌else◌}
 use Rattle.std.specs.List.{filter_map}
 use Rattle.vn_types.specs.declared.interface.HalfId.{HalfId}
 use Rattle.vn_types.specs.declared.interface.IfOf.{IfOf}
@@ -15,7 +15,7 @@ use Rattle.vn_vmove.specs.declared.tables.Tables.{Tables}
 use Rattle.vn_vmove.specs.Moves.{half_on}
 use Rattle.vn_vmove.specs.Nets.{Becomes, Net, net_of, on_stack}
 use Rattle.vn_vmove.specs.Parts.{pair_at, parts}
-use Rattle.vn_vmove.specs.Sound.{IsSound}
+use Rattle.vn_vmove.specs.Sound.{IsSound, stands_at}
 use Rattle.vn_vmove.specs.Tallies.{drops_of}
 
 -- ---- the scene of a stack
@@ -84,3 +84,23 @@ HasRoomFor n t q = (what : Tally) → drops_of what (parts t q).drops + n < 2 ^ 
 -- each counter of a stack is below the bound that the number of events keeps
 abbrev pub HasRoom : Tables → ℕ → Type 0
 HasRoom t q = (what : Tally) → drops_of what (parts t q).drops < 2 ^ 63
+
+-- ---- what a call needs
+
+-- all is sound, and the half stands in the stack
+pub record StandsIn (sid : ℕ) (half : HalfId) (t : Tables) : Type 0 where
+  -- the tables of all stacks
+  pub sound : IsSound t
+  -- its end of the pair is there
+  pub stands : stands_at sid half.side (pair_at t half.pair) ≡ true
+
+-- an ARP packet can come to a half
+pub record IsReady (sid : ℕ) (half : HalfId) (now : ℕ) (t : Tables) : Type 0 where
+  -- the half stands in the stack
+  pub here : StandsIn sid half t
+  -- each counter is below the bound
+  pub counters : HasRoom t sid
+  -- so is the clock
+  pub clock : now < 2 ^ 63
+  -- and the number of timers that were armed
+  pub armed : (parts t sid).timers.armed < 2 ^ 63

@@ -1,9 +1,7 @@
-ghost use Rattle.std.specs.Prelude.{◌≡◌, true, OnErr, OnOk};
+ghost use Rattle.std.specs.Prelude.{◌≡◌, OnErr, OnOk};
 ghost use Rattle.vn_types.specs.Interfaces.{half_id_eq};
 ghost use Rattle.vn_packets.specs.ArpPackets.{announced};
-ghost use Rattle.vn_vmove.specs.Parts.{pair_at};
-ghost use Rattle.vn_vmove.specs.Sound.{IsSound, stands_at};
-ghost use Rattle.vn_ipcore.specs.Scenes.{HasRoom, HasRoomFor, Replaces, scene_of};
+ghost use Rattle.vn_ipcore.specs.Scenes.{HasRoom, HasRoomFor, Replaces, StandsIn, scene_of};
 
 use crate::sending::send_arp;
 use std::alloc::Global;
@@ -25,8 +23,7 @@ pub fn announce(
     half: HalfId,
     ip: Ip4,
 ) -> Result<(), NoMemory>
-    requires sound { IsSound tables.old }
-    requires stands { stands_at sid.0 half.side (pair_at tables.old half.pair) ≡ true }
+    requires here { StandsIn sid.0 half tables.old }
     requires counters { HasRoom tables.old sid.0 }
     ensures announced { OnOk result (Replaces sid.0
         (announced half_id_eq half ip (scene_of tables.old sid.0)) tables.old tables.new) }
@@ -36,6 +33,7 @@ pub fn announce(
 }
 
 /// Tells an address of a half to all, where each counter has room for one more.
+#[tactic(auto, using(crate::proofs::Sent::half_exists))]
 pub(crate) fn tell(
     alloc: Global,
     tables: &mut Tables,
@@ -43,8 +41,7 @@ pub(crate) fn tell(
     half: HalfId,
     ip: Ip4,
 ) -> Result<(), NoMemory>
-    requires sound { IsSound tables.old }
-    requires stands { stands_at sid.0 half.side (pair_at tables.old half.pair) ≡ true }
+    requires here { StandsIn sid.0 half tables.old }
     requires room { HasRoomFor 1 tables.old sid.0 }
     ensures announced { OnOk result (Replaces sid.0
         (announced half_id_eq half ip (scene_of tables.old sid.0)) tables.old tables.new) }

@@ -6,7 +6,7 @@ ghost use Rattle.vn_rules.specs.LinkCommands.{down_rule};
 ghost use Rattle.vn_packets.specs.AddressLinks.{all_announced, up_rule};
 ghost use Rattle.vn_vmove.specs.Parts.{pair_at, parts};
 ghost use Rattle.vn_vmove.specs.Sound.{IsSound, stands_at};
-ghost use Rattle.vn_ipcore.specs.Scenes.{HasRoom, HasRoomFor, Replaces, scene_of};
+ghost use Rattle.vn_ipcore.specs.Scenes.{HasRoom, HasRoomFor, Replaces, StandsIn, scene_of};
 ghost use Rattle.vn_ipcore.specs.Announcing.{announced_of};
 
 use crate::announcing::tell;
@@ -44,8 +44,7 @@ pub fn go_down(tables: &mut Tables, sid: Sid, half: HalfId)
 
 /// Announces the addresses of a half in their order.
 fn announce_all(alloc: Global, tables: &mut Tables, sid: Sid, half: HalfId) -> Result<(), NoMemory>
-    requires sound { IsSound tables.old }
-    requires stands { stands_at sid.0 half.side (pair_at tables.old half.pair) ≡ true }
+    requires here { StandsIn sid.0 half tables.old }
     requires counters { HasRoom tables.old sid.0 }
     ensures { OnOk result (Replaces sid.0 (all_announced half_id_eq half
         (filter (is_on half_id_eq (Half half)) (parts tables.old sid.0).addresses)
@@ -67,8 +66,7 @@ fn announce_own(
     half: HalfId,
     addr: Addr,
 ) -> Result<(), NoMemory>
-    requires sound { IsSound tables.old }
-    requires stands { stands_at sid.0 half.side (pair_at tables.old half.pair) ≡ true }
+    requires here { StandsIn sid.0 half tables.old }
     requires room { HasRoomFor 1 tables.old sid.0 }
     ensures { OnOk result (Replaces sid.0
         (announced_of half addr (scene_of tables.old sid.0)) tables.old tables.new) }

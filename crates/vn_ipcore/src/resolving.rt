@@ -1,9 +1,8 @@
-ghost use Rattle.std.specs.Prelude.{◌≡◌, ◌<◌, ◌^◌, false, length, true, Ok, OnOk};
+ghost use Rattle.std.specs.Prelude.{◌≡◌, false, length, Ok, OnOk};
 ghost use Rattle.vn_types.specs.Interfaces.{half_id_eq};
 ghost use Rattle.vn_packets.specs.ArpPackets.{arp_heard, arp_read, arp_received, is_stranger as is_stranger_to, mac_of, reply, sent_arp, sent_datagrams};
-ghost use Rattle.vn_vmove.specs.Parts.{pair_at, parts};
-ghost use Rattle.vn_vmove.specs.Sound.{IsSound, stands_at};
-ghost use Rattle.vn_ipcore.specs.Scenes.{HasRoom, HasRoomFor, Replaces, scene_of};
+ghost use Rattle.vn_vmove.specs.Parts.{parts};
+ghost use Rattle.vn_ipcore.specs.Scenes.{HasRoomFor, IsReady, Replaces, StandsIn, scene_of};
 
 use crate::sending::{send_arp, send_datagram};
 use std::alloc::Global;
@@ -15,6 +14,7 @@ use vn_vmove::{Tables, Tally};
 const REPLY: u16 = 2;
 
 /// An ARP packet comes to a half that stands in the stack (RFC 826, "Packet Reception").
+#[tactic(auto, using(crate::proofs::Sent::stack_lives))]
 pub fn input_arp(
     alloc: Global,
     tables: &mut Tables,
@@ -23,11 +23,7 @@ pub fn input_arp(
     octets: &[u8],
     now: u64,
 ) -> Result<(), NoMemory>
-    requires sound { IsSound tables.old }
-    requires stands { stands_at sid.0 half.side (pair_at tables.old half.pair) ≡ true }
-    requires counters { HasRoom tables.old sid.0 }
-    requires clock { now < 2 ^ 63 }
-    requires armed { (parts tables.old sid.0).timers.armed < 2 ^ 63 }
+    requires { IsReady sid.0 half now tables.old }
     ensures { OnOk result (Replaces sid.0
         (arp_received half_id_eq (record { clock = now }) half octets.now (scene_of tables.old sid.0)) tables.old tables.new) }
 {
@@ -41,6 +37,7 @@ pub fn input_arp(
 }
 
 /// A packet counts for nothing where its sender does.
+#[tactic(auto, using(crate::proofs::Sent::stack_lives))]
 fn heed(
     alloc: Global,
     tables: &mut Tables,
@@ -49,11 +46,7 @@ fn heed(
     packet: ArpPacket,
     now: u64,
 ) -> Result<(), NoMemory>
-    requires sound { IsSound tables.old }
-    requires stands { stands_at sid.0 half.side (pair_at tables.old half.pair) ≡ true }
-    requires counters { HasRoom tables.old sid.0 }
-    requires clock { now < 2 ^ 63 }
-    requires armed { (parts tables.old sid.0).timers.armed < 2 ^ 63 }
+    requires { IsReady sid.0 half now tables.old }
     ensures { OnOk result (Replaces sid.0
         (arp_read half_id_eq (record { clock = now }) half (Ok packet) (scene_of tables.old sid.0)) tables.old tables.new) }
 {
@@ -80,11 +73,7 @@ fn hear(
     packet: ArpPacket,
     now: u64,
 ) -> Result<(), NoMemory>
-    requires sound { IsSound tables.old }
-    requires stands { stands_at sid.0 half.side (pair_at tables.old half.pair) ≡ true }
-    requires counters { HasRoom tables.old sid.0 }
-    requires clock { now < 2 ^ 63 }
-    requires armed { (parts tables.old sid.0).timers.armed < 2 ^ 63 }
+    requires ready { IsReady sid.0 half now tables.old }
     requires known { is_stranger_to half_id_eq half packet.spa (parts tables.old sid.0) ≡ false }
     ensures { OnOk result (Replaces sid.0
         (arp_heard half_id_eq (record { clock = now }) half packet (scene_of tables.old sid.0)) tables.old tables.new) }
@@ -110,8 +99,7 @@ fn send_all(
     to: Mac,
     packets: Packets,
 ) -> Result<(), NoMemory>
-    requires sound { IsSound tables.old }
-    requires stands { stands_at sid.0 half.side (pair_at tables.old half.pair) ≡ true }
+    requires here { StandsIn sid.0 half tables.old }
     requires room { HasRoomFor (length packets) tables.old sid.0 }
     ensures { OnOk result (Replaces sid.0
         (sent_datagrams half_id_eq half to packets (scene_of tables.old sid.0)) tables.old tables.new) }
@@ -124,6 +112,7 @@ fn send_all(
 }
 
 /// A half that stands in the stack replies to a request for its address.
+#[tactic(auto, using(crate::proofs::Sent::half_exists))]
 fn send_reply(
     alloc: Global,
     tables: &mut Tables,
@@ -131,8 +120,7 @@ fn send_reply(
     half: HalfId,
     packet: ArpPacket,
 ) -> Result<(), NoMemory>
-    requires sound { IsSound tables.old }
-    requires stands { stands_at sid.0 half.side (pair_at tables.old half.pair) ≡ true }
+    requires here { StandsIn sid.0 half tables.old }
     requires room { HasRoomFor 1 tables.old sid.0 }
     ensures { OnOk result (Replaces sid.0 (sent_arp half_id_eq half packet.sha
         (reply (mac_of half_id_eq half (scene_of tables.old sid.0)) packet) (scene_of tables.old sid.0))

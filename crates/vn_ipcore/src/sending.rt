@@ -1,11 +1,9 @@
-ghost use Rattle.std.specs.Prelude.{◌≡◌, ◌⊎◌, true, IfOk, OnErr, OnOk};
+ghost use Rattle.std.specs.Prelude.{◌≡◌, ◌⊎◌, IfOk, OnErr, OnOk};
 ghost use Rattle.vn_types.specs.Interfaces.{half_id_eq};
 ghost use Rattle.vn_packets.specs.ArpPackets.{reply_op, request_op, sent_arp, sent_datagram};
 ghost use Rattle.vn_packets.specs.Datagrams.{frame_with};
 ghost use Rattle.vn_packets.specs.Links.{sent};
-ghost use Rattle.vn_vmove.specs.Parts.{pair_at};
-ghost use Rattle.vn_vmove.specs.Sound.{IsSound, stands_at};
-ghost use Rattle.vn_ipcore.specs.Scenes.{HasRoomFor, Replaces, scene_of};
+ghost use Rattle.vn_ipcore.specs.Scenes.{HasRoomFor, Replaces, StandsIn, scene_of};
 
 use bytes::Bytes;
 use std::alloc::Global;
@@ -34,8 +32,7 @@ pub(crate) fn send_arp(
     to: Mac,
     packet: ArpPacket,
 ) -> Result<(), NoMemory>
-    requires sound { IsSound tables.old }
-    requires stands { stands_at sid.0 half.side (pair_at tables.old half.pair) ≡ true }
+    requires here { StandsIn sid.0 half tables.old }
     requires room { HasRoomFor 1 tables.old sid.0 }
     requires op { (packet.op ≡ request_op) ⊎ (packet.op ≡ reply_op) }
     ensures sent { OnOk result (Replaces sid.0
@@ -50,6 +47,7 @@ pub(crate) fn send_arp(
 }
 
 /// A half that stands in the stack sends a datagram to a station.
+#[tactic(auto, using(crate::proofs::Sent::half_exists))]
 pub(crate) fn send_datagram(
     alloc: Global,
     tables: &mut Tables,
@@ -58,8 +56,7 @@ pub(crate) fn send_datagram(
     to: Mac,
     datagram: &[u8],
 ) -> Result<(), NoMemory>
-    requires sound { IsSound tables.old }
-    requires stands { stands_at sid.0 half.side (pair_at tables.old half.pair) ≡ true }
+    requires here { StandsIn sid.0 half tables.old }
     requires room { HasRoomFor 1 tables.old sid.0 }
     ensures { OnOk result (Replaces sid.0
         (sent_datagram half_id_eq half to datagram.now (scene_of tables.old sid.0)) tables.old tables.new) }
@@ -85,9 +82,9 @@ fn frame_of(alloc: Global, to: Mac, from: Mac, kind: u16, payload: &[u8]) -> Res
 
 /// A half that stands in the stack sends a frame. It is lost where the half is down, and then where the
 /// queue is full.
+#[tactic(auto, using(crate::proofs::Sent::half_exists, crate::proofs::Sent::stack_lives))]
 fn send_frame(tables: &mut Tables, sid: Sid, half: HalfId, frame: Bytes)
-    requires sound { IsSound tables.old }
-    requires stands { stands_at sid.0 half.side (pair_at tables.old half.pair) ≡ true }
+    requires here { StandsIn sid.0 half tables.old }
     requires room { HasRoomFor 1 tables.old sid.0 }
     ensures { Replaces sid.0 (sent half_id_eq half frame (scene_of tables.old sid.0)) tables.old tables.new }
 {

@@ -5,14 +5,10 @@ use Rattle.vn_rules.specs.Scenes.{LinkOf}
 use Rattle.vn_packets.specs.ArpPackets.{announced, gratuitous, sent_arp}
 use Rattle.vn_packets.specs.Datagrams.{broadcast_mac}
 use Rattle.vn_arp.proofs.Edits.{for_ok}
-use Rattle.vn_vmove.specs.Parts.{pair_at}
 use Rattle.vn_ipcore.specs.Scenes.{Replaces, scene_of}
 use Rattle.vn_ipcore.proofs.Back.{replaces_as}
-use Rattle.vn_ipcore.proofs.Sent.{link_is, pair-stands}
+use Rattle.vn_ipcore.proofs.Sent.{link_is}
 use Rattle.vn_ipcore.proofs.announcing.tell.Goals as goal
-
-pub mac-requires : goal.mac-requires
-mac-requires c = pair-stands c.args.sid.0 c.args.half (pair_at c.args.tables.now c.args.half.pair) c.requires.stands
 
 pub returns-clause-announced : goal.returns-clause-announced
 unfolding announced
@@ -23,5 +19,5 @@ returns-clause-announced c =
     let s = scene_of t q in
     for_ok _ (Replaces q (announced half_id_eq h c.args.ip s) t c.send_arp.new.tables) c.send_arp.result
     (replaces_as _ (announced half_id_eq h c.args.ip s)
-    (ap (λ m. sent_arp half_id_eq h broadcast_mac (gratuitous m c.args.ip) s) (c.mac.ensures ∙ ap (λ (l : LinkOf HalfId). l.mac) (sym (link_is c.requires.sound q h c.requires.stands)))))
+    (ap (λ m. sent_arp half_id_eq h broadcast_mac (gratuitous m c.args.ip) s) (c.mac.ensures ∙ ap (λ (l : LinkOf HalfId). l.mac) (sym (link_is c.requires.here.sound q h c.requires.here.stands)))))
     c.send_arp.ensures.sent

@@ -1,26 +1,23 @@
-use Rattle.std.proofs.Common.{sym, ◌∙◌, ◌^◌, ◌≡◌, true, arith}
+use Rattle.std.proofs.Common.{sym, ◌^◌, ◌≡◌, true, arith}
 use Rattle.std.proofs.lemmas.Bool.{lt-ltb}
 use Rattle.vn_vmove.proofs.Walk.{is_word}
 use Rattle.vn_ipcore.proofs.Announced.{at_first, at_last, few_places, nearer, one_more, still_room}
-use Rattle.vn_ipcore.proofs.Back.{stands_then}
+use Rattle.vn_ipcore.proofs.Back.{still_there}
 use Rattle.vn_ipcore.proofs.links.announce_all.Goals as goal
 
 pub loop-addr-init : goal.loop-addr-init
-loop-addr-init c = at_first c.requires.sound c.args.sid.0 c.args.half
+loop-addr-init c = at_first c.requires.here.sound c.args.sid.0 c.args.half
 
-pub announce_own-requires-clause-sound : goal.announce_own-requires-clause-sound
-announce_own-requires-clause-sound c = c.loop-addr.invariant.replaces.sound
-
-pub announce_own-requires-clause-stands : goal.announce_own-requires-clause-stands
-announce_own-requires-clause-stands c = stands_then c.loop-addr.invariant.replaces c.args.sid.0 c.args.half ∙ c.requires.stands
+pub announce_own-requires-clause-here : goal.announce_own-requires-clause-here
+announce_own-requires-clause-here c = still_there c.loop-addr.invariant.replaces c.requires.here
 
 pub announce_own-requires-clause-room : goal.announce_own-requires-clause-room
 announce_own-requires-clause-room c =
-    still_room c.loop-addr.invariant c.requires.counters (few_places c.requires.sound c.loop-addr.invariant c.in-Some.addr (sym c.in-Some.ensures.at))
+    still_room c.loop-addr.invariant c.requires.counters (few_places c.requires.here.sound c.loop-addr.invariant c.in-Some.addr (sym c.in-Some.ensures.at))
 
 pub overflow_add-place : goal.overflow_add-place
 overflow_add-place c =
-    let few = few_places c.requires.sound c.loop-addr.invariant c.in-Some.addr (sym c.in-Some.ensures.at) in
+    let few = few_places c.requires.here.sound c.loop-addr.invariant c.in-Some.addr (sym c.in-Some.ensures.at) in
     omega (arith, few)
 
 pub loop-addr-preserved : goal.loop-addr-preserved

@@ -11,7 +11,7 @@ pub returns-then-not-same_interface : goal.returns-then-not-same_interface
 returns-then-not-same_interface c =
     let s = scene_of c.args.tables.now c.args.sid.0 in
     replaces_as s (announced_of c.args.half c.args.addr s)
-    (ap (λ b. cond b (announced half_id_eq c.args.half c.args.addr.ip s) s) (sym c.if-not-same_interface.true ∙ c.same_interface.ensures)) (replaces_same c.requires.sound c.args.sid.0)
+    (ap (λ b. cond b (announced half_id_eq c.args.half c.args.addr.ip s) s) (sym c.if-not-same_interface.true ∙ c.same_interface.ensures)) (replaces_same c.requires.here.sound c.args.sid.0)
 
 pub returns : goal.returns
 returns c =

@@ -6,7 +6,7 @@ use Rattle.vn_packets.specs.AddressLinks.{up_rule}
 use Rattle.vn_vmove.specs.Parts.{pair_at}
 use Rattle.vn_ipcore.specs.Scenes.{Replaces, scene_of}
 use Rattle.vn_ipcore.proofs.Sent.{pair-stands}
-use Rattle.vn_ipcore.proofs.Up.{replaces_by_same, replaces_by_up, set-sound, set-stands}
+use Rattle.vn_ipcore.proofs.Up.{replaces_by_same, replaces_by_up, set_there}
 use Rattle.vn_ipcore.proofs.links.come_up.Goals as goal
 
 pub is_up-was_up-requires : goal.is_up-was_up-requires
@@ -15,13 +15,9 @@ is_up-was_up-requires c = pair-stands c.args.sid.0 c.args.half (pair_at c.args.t
 pub set_up-requires : goal.set_up-requires
 set_up-requires c = pair-stands c.args.sid.0 c.args.half (pair_at c.args.tables.now c.args.half.pair) c.requires.stands
 
-pub announce_all-requires-clause-sound : goal.announce_all-requires-clause-sound
-announce_all-requires-clause-sound c =
-    set-sound c.requires.sound c.args.sid.0 c.args.half c.requires.stands c.set_up.new.self true c.set_up.ensures.up c.set_up.ensures.others c.set_up.ensures.numbers
-
-pub announce_all-requires-clause-stands : goal.announce_all-requires-clause-stands
-announce_all-requires-clause-stands c =
-    set-stands c.requires.sound c.args.sid.0 c.args.half c.requires.stands c.set_up.new.self true c.set_up.ensures.up c.set_up.ensures.others c.set_up.ensures.numbers
+pub announce_all-requires-clause-here : goal.announce_all-requires-clause-here
+announce_all-requires-clause-here c =
+    set_there c.requires.sound c.args.sid.0 c.args.half c.requires.stands c.set_up.new.self true c.set_up.ensures.up c.set_up.ensures.others c.set_up.ensures.numbers
 
 pub returns-then-was_up : goal.returns-then-was_up
 returns-then-was_up c =

@@ -11,9 +11,6 @@ use Rattle.vn_ipcore.proofs.Parted.{replaces_counted}
 use Rattle.vn_ipcore.proofs.Sent.{lives-where}
 use Rattle.vn_ipcore.proofs.resolving.heed.Goals as goal
 
-pub count-requires-clause-exists : goal.count-requires-clause-exists
-count-requires-clause-exists c = lives-where c.requires.sound c.args.sid.0 c.args.half c.requires.stands
-
 pub count-requires-clause-fits : goal.count-requires-clause-fits
 count-requires-clause-fits c = room_for_one c.args.tables.now c.args.sid.0 c.requires.counters Arp
 
@@ -23,7 +20,7 @@ returns-then-is_stranger c =
     let s = scene_of c.args.tables.now c.args.sid.0 in
     replaces_as (lost Arp 1 s) (arp_read half_id_eq (record { clock = c.args.now }) c.args.half (Ok c.args.packet) s)
     (ap (λ b. cond b (lost Arp 1 s) (arp_heard half_id_eq (record { clock = c.args.now }) c.args.half c.args.packet s)) (sym c.if-is_stranger.true ∙ c.is_stranger.ensures))
-    (replaces_counted c.requires.sound c.args.sid.0 (lives-where c.requires.sound c.args.sid.0 c.args.half c.requires.stands) Arp 1 c.count.new.self c.count.ensures.counted c.count.ensures.others)
+    (replaces_counted c.requires.here.sound c.args.sid.0 (lives-where c.requires.here.sound c.args.sid.0 c.args.half c.requires.here.stands) Arp 1 c.count.new.self c.count.ensures.counted c.count.ensures.others)
 
 pub returns : goal.returns
 unfolding scene_of

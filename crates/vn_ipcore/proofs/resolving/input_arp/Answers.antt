@@ -11,9 +11,6 @@ use Rattle.vn_ipcore.proofs.Parted.{replaces_counted}
 use Rattle.vn_ipcore.proofs.Sent.{lives-where}
 use Rattle.vn_ipcore.proofs.resolving.input_arp.Goals as goal
 
-pub count-requires-clause-exists : goal.count-requires-clause-exists
-count-requires-clause-exists c = lives-where c.requires.sound c.args.sid.0 c.args.half c.requires.stands
-
 pub count-requires-clause-fits : goal.count-requires-clause-fits
 count-requires-clause-fits c = room_for_one c.args.tables.now c.args.sid.0 c.requires.counters Arp
 
@@ -33,4 +30,4 @@ returns-in-Err c =
     let s = scene_of c.args.tables.now c.args.sid.0 in
     replaces_as (lost Arp 1 s) (arp_received half_id_eq (record { clock = c.args.now }) c.args.half c.args.octets.now s)
     (ap (λ r. arp_read half_id_eq (record { clock = c.args.now }) c.args.half r s) c.in-Err.ensures.read)
-    (replaces_counted c.requires.sound c.args.sid.0 (lives-where c.requires.sound c.args.sid.0 c.args.half c.requires.stands) Arp 1 c.count.new.self c.count.ensures.counted c.count.ensures.others)
+    (replaces_counted c.requires.here.sound c.args.sid.0 (lives-where c.requires.here.sound c.args.sid.0 c.args.half c.requires.here.stands) Arp 1 c.count.new.self c.count.ensures.counted c.count.ensures.others)

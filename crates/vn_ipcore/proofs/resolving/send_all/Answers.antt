@@ -1,19 +1,16 @@
-use Rattle.std.proofs.Common.{subst, sym, ◌∙◌}
+use Rattle.std.proofs.Common.{subst, sym}
 use Rattle.vn_types.specs.Interfaces.{half_id_eq}
 use Rattle.vn_packets.specs.ArpPackets.{sent_datagram}
 use Rattle.vn_ipcore.specs.Scenes.{Replaces, scene_of}
-use Rattle.vn_ipcore.proofs.Back.{stands_then}
+use Rattle.vn_ipcore.proofs.Back.{still_there}
 use Rattle.vn_ipcore.proofs.Resolved.{IsSending, sending_first, sending_last, sending_more, sending_room}
 use Rattle.vn_ipcore.proofs.resolving.send_all.Goals as goal
 
 pub loop-datagram-init : goal.loop-datagram-init
-loop-datagram-init c = sending_first c.requires.sound c.args.sid.0 c.args.half c.args.to c.args.packets c.requires.room
+loop-datagram-init c = sending_first c.requires.here.sound c.args.sid.0 c.args.half c.args.to c.args.packets c.requires.room
 
-pub send_datagram-requires-clause-sound : goal.send_datagram-requires-clause-sound
-send_datagram-requires-clause-sound c = c.loop-datagram.invariant.replaces.sound
-
-pub send_datagram-requires-clause-stands : goal.send_datagram-requires-clause-stands
-send_datagram-requires-clause-stands c = stands_then c.loop-datagram.invariant.replaces c.args.sid.0 c.args.half ∙ c.requires.stands
+pub send_datagram-requires-clause-here : goal.send_datagram-requires-clause-here
+send_datagram-requires-clause-here c = still_there c.loop-datagram.invariant.replaces c.requires.here
 
 pub send_datagram-requires-clause-room : goal.send_datagram-requires-clause-room
 send_datagram-requires-clause-room c = sending_room c.loop-datagram.invariant c.in-Some.datagram (sym c.in-Some.ensures.first)

@@ -5,13 +5,9 @@ use Rattle.vn_rules.specs.Scenes.{LinkOf}
 use Rattle.vn_packets.specs.ArpPackets.{sent_datagram}
 use Rattle.vn_packets.specs.Datagrams.{frame_with, ip4_type}
 use Rattle.vn_packets.specs.Links.{sent}
-use Rattle.vn_vmove.specs.Parts.{pair_at}
 use Rattle.vn_ipcore.specs.Scenes.{Replaces, scene_of}
-use Rattle.vn_ipcore.proofs.Sent.{link_is, pair-stands}
+use Rattle.vn_ipcore.proofs.Sent.{link_is}
 use Rattle.vn_ipcore.proofs.sending.send_datagram.Goals as goal
-
-pub mac-from-requires : goal.mac-from-requires
-mac-from-requires c = pair-stands c.args.sid.0 c.args.half (pair_at c.args.tables.now c.args.half.pair) c.requires.stands
 
 pub returns : goal.returns
 unfolding sent_datagram
@@ -19,4 +15,4 @@ returns c =
     let t = c.args.tables.now in
     subst (λ frame. Replaces c.args.sid.0 (sent half_id_eq c.args.half frame (scene_of t c.args.sid.0)) t c.send_frame.new.tables)
     (c.in_ok-frame.ensures ∙ ap (λ mac. frame_with c.args.to mac ip4_type c.args.datagram.now)
-    (c.mac-from.ensures ∙ ap (λ (l : LinkOf HalfId). l.mac) (sym (link_is c.requires.sound c.args.sid.0 c.args.half c.requires.stands)))) c.send_frame.ensures
+    (c.mac-from.ensures ∙ ap (λ (l : LinkOf HalfId). l.mac) (sym (link_is c.requires.here.sound c.args.sid.0 c.args.half c.requires.here.stands)))) c.send_frame.ensures
