@@ -1,28 +1,27 @@
 -- What a command is answered, and its entry, together as the machine's step.
-use Rattle.std.proofs.Common.{◌≡◌, ℕ, ◌+◌, ◌≤◌, ◌++◌, ◌&&◌, Bool, true, false, length, map, not, IsTrue, List, [], ◌∷◌, Some, None, refl, sym, ap, ap₂, ◌∙◌, subst, arith}
-use Rattle.std.specs.Prelude.{if◌then◌else◌, nat_le, nat_lt}
-use Rattle.std.proofs.lemmas.Bool.{leb-true, and_parts, false≢true}
+use Rattle.std.proofs.Common.{◌≡◌, ℕ, ◌+◌, ◌≤◌, Bool, true, false, length, map, not, IsTrue, List, [], ◌∷◌, Some, None, refl, sym, ap, ap₂, ◌∙◌, subst}
+use Rattle.std.specs.Prelude.{if◌then◌else◌}
+use Rattle.std.proofs.lemmas.Bool.{and_parts, false≢true}
 use Rattle.vn_types.specs.Paths.{Path, above, parent}
 use Rattle.vn_types.specs.declared.errno.Errno.{Errno}
 use Rattle.vn_types.specs.declared.errno.Errno.TheVariants as errno
 use Rattle.vn_types.specs.Refusals.{first_refusal}
 use Rattle.vn_rules.specs.declared.outcome.Outcome.{Outcome}
 use Rattle.vn_rules.specs.declared.outcome.Outcome.TheVariants.{Done, Refused}
-use Rattle.vn_rules.specs.Rules.{Answer, Rule, answer, answer_by, done, refused}
+use Rattle.vn_rules.specs.Rules.{Rule, answer, refused}
 use Rattle.vn_jail.specs.declared.jail.Jail.{Jail}
 use Rattle.vn_jail.specs.Kept.{IsLinked, IsTree}
 use Rattle.vn_jail.specs.Tree.{any_full, create_refusal, created as created_of, is_alive, number_of}
 use Rattle.vn_vmove.specs.declared.tables.Tables.{Tables}
 use Rattle.vn_vmove.specs.Parts.{lives}
 use Rattle.vn_cells.specs.declared.command.Command.{Command}
-use Rattle.vn_cells.specs.declared.command.Command.TheVariants.{JailCreate}
 use Rattle.vn_cells.specs.declared.event.Event.{Event}
 use Rattle.vn_cells.specs.declared.event.Event.TheVariants as event
 use Rattle.vn_cells.specs.declared.transcript.Entry.{Entry}
 use Rattle.vn_cells.specs.declared.transcript.What.TheVariants as what
 use Rattle.vn_cells.specs.declared.world.World.{World}
-use Rattle.vn_cells.specs.machine.Events.{IsValidEvent, is_at_path, is_built, is_built_command, is_valid_event, is_named_path, is_valid_command}
-use Rattle.vn_cells.specs.world.Names.{is_host, is_path}
+use Rattle.vn_cells.specs.machine.Events.{IsValidEvent, is_at_path, is_built, is_built_command, is_valid_event, is_valid_command}
+use Rattle.vn_cells.specs.world.Names.{is_host}
 use Rattle.vn_cells.specs.world.World.{common_of}
 use Rattle.vn_cells.specs.machine.Commands.{far_rule}
 use Rattle.vn_cells.specs.commands.Jails.{created, creation, init_entry, rows}
@@ -30,34 +29,15 @@ use Rattle.vn_cells.specs.machine.Reach.{Near, Reach, reach}
 use Rattle.vn_cells.specs.machine.Step.{commanded, entered, ran_by, step}
 use Rattle.vn_kernel.specs.Construction.{Constructs}
 use Rattle.vn_kernel.specs.Fields.{Fields}
-use Rattle.vn_kernel.specs.Stands.{Answered, Grows, Leaves, Ran, Stands, Stepped}
+use Rattle.vn_kernel.specs.Stands.{Answered, Leaves, Ran, Stands, Stepped}
 use Rattle.vn_kernel.specs.Worlds.{logged, with_entry, world_of}
+use Rattle.vn_kernel.proofs.Answering.{answered-done, answered-refused, grows_not}
 use Rattle.vn_kernel.proofs.Created.{leaves-created}
 use Rattle.vn_kernel.proofs.Jails.{free-number}
 use Rattle.vn_kernel.proofs.Refusals.{refusal-is}
 use Rattle.vn_kernel.proofs.Views.{alive-is, stands-entry, world-entry}
 
 -- ---- creation of a jail
-
--- what a rule answers where it refuses, and where it does not
-pub refused_is : (w : World) (rule : Rule World) (e : Errno) → Some e ≡ first_refusal rule.refusals → answer w rule ≡ refused e w
-unfolding answer_by
-refused_is w rule e is = ap (λ r. answer_by r w rule.otherwise) (sym is)
-
-pub done_is : (w after : World) (p : Path) (limit : ℕ) → first_refusal (creation (common_of w) p limit w).refusals ≡ None → after ≡ created w.clock p limit w
-    → answer w (creation (common_of w) p limit w) ≡ done after
-unfolding answer_by
-done_is w after p limit none is = ap (λ r. answer_by r w (done (created w.clock p limit w))) none ∙ ap done (sym is)
-
--- what is answered, where what is left stands
-answered : (a : Answer World) (given : Outcome) (f g : Fields) → a ≡ record { left = world_of g; outcome = given } → Stands g → Grows f g → Answered a given f g
-answered a given f g is stands grows = record {
-  outcome = sym (ap (λ (x : Answer World). x.outcome) is);
-  leaves = record { world = sym (ap (λ (x : Answer World). x.left) is); stands = stands; grows = grows };
-}
-
-grows_not : (f : Fields) → Grows f f
-grows_not f = record { jails = omega arith; pairs = omega arith }
 
 module _ (f : Fields) (s : Stands f) (p : Path) (limit : ℕ) where
   abbrev rule : Rule World
@@ -68,14 +48,13 @@ module _ (f : Fields) (s : Stands f) (p : Path) (limit : ℕ) where
       → Answered (answer (world_of f) (creation (common_of (world_of f)) p limit (world_of f))) (Refused e) f (record f { jails = js })
   refused_creation e js refusal same =
       subst (λ js. Answered (answer (world_of f) rule) (Refused e) f (record f { jails = js })) (sym same)
-      (answered (answer (world_of f) rule) (Refused e) f f (refused_is (world_of f) rule e (sym (refusal-is f s (common_of (world_of f)) p limit ∙ refusal))) s (grows_not f))
+      (answered-refused f rule s e (refusal-is f s (common_of (world_of f)) p limit ∙ refusal))
 
   -- one that is not leaves the jail constructed
   pub done_creation : (g : Fields) → create_refusal p f.jails ≡ None → Leaves (created f.clock p limit (world_of f)) f g
       → Answered (answer (world_of f) (creation (common_of (world_of f)) p limit (world_of f))) Done f g
   unfolding world_of
-  done_creation g refusal leaves =
-      answered (answer (world_of f) rule) Done f g (done_is (world_of f) (world_of g) p limit (refusal-is f s (common_of (world_of f)) p limit ∙ refusal) leaves.world) leaves.stands leaves.grows
+  done_creation g refusal leaves = answered-done f rule g Done (refusal-is f s (common_of (world_of f)) p limit ∙ refusal) refl leaves
 
 -- what is not refused doesn't live
 pub free-dead : (p : Path) (jails : List Jail) → create_refusal p jails ≡ None → is_alive p jails ≡ false
@@ -104,31 +83,6 @@ created_as f s p limit label free js made linked tree few n number u c logs note
 
 -- ---- a command
 
-named_of : (issuer : Path) (command : Command) (path : Path) (limit : ℕ) → command ≡ JailCreate path limit → IsTrue (is_valid_command issuer command) → is_named_path issuer path ≡ true
-unfolding is_valid_command
-named_of issuer command path limit is valid = (and_parts (is_named_path issuer path) (nat_lt limit 10000) (subst (λ c. IsTrue (is_valid_command issuer c)) is valid)).0
-
-pub joins : (issuer : Path) (command : Command) (path : Path) (limit : ℕ) → command ≡ JailCreate path limit → IsTrue (is_valid_command issuer command) → length issuer + length path ≤ 8
-unfolding is_named_path
-joins issuer command path limit is valid =
-    leb-true (length issuer + length path) 8 (and_parts (is_path path && not (is_host path)) (nat_le (length issuer + length path) 8) (named_of issuer command path limit is valid)).1
-
--- a path that a command names has a label behind the issuer's
-labelled : (issuer path : Path) → is_host path ≡ false → is_host (issuer ++ path) ≡ false
-unfolding is_host
-labelled [] path label = label
-labelled (l ∷ issuer) path label = refl
-
-unlabelled : (b : Bool) → not b ≡ true → b ≡ false
-unlabelled true e = absurd (false≢true e)
-unlabelled false e = refl
-
-pub names_jail : (issuer jail : Path) (command : Command) (path : Path) (limit : ℕ) → command ≡ JailCreate path limit → IsTrue (is_valid_command issuer command) → jail ≡ issuer ++ path → is_host jail ≡ false
-unfolding is_named_path
-names_jail issuer jail command path limit is valid at =
-    let named = (and_parts (is_path path && not (is_host path)) (nat_le (length issuer + length path) 8) (named_of issuer command path limit is valid)).0 in
-    ap is_host at ∙ labelled issuer path (unlabelled (is_host path) (and_parts (is_path path) (not (is_host path)) named).1)
-
 -- at a path that does not live
 pub dead : (f : Fields) (issuer : Path) (command : Command) → Stands f → is_alive issuer f.jails ≡ false → Ran issuer command (Refused errno.NoEnt) f f
 unfolding commanded world_of
@@ -155,20 +109,6 @@ reached f g issuer command given s alive beyond a = record {
   stands = a.leaves.stands;
   grows = a.leaves.grows;
 }
-
--- a jail is made
-pub made_jail : (f g : Fields) (issuer jail : Path) (command : Command) (path : Path) (limit : ℕ) (given : Outcome) → Stands f → is_alive issuer f.jails ≡ true → command ≡ JailCreate path limit → jail ≡ issuer ++ path
-    → Answered (answer (world_of f) (creation (common_of (world_of f)) jail limit (world_of f))) given f g → Ran issuer command given f g
-unfolding reach far_rule
-made_jail f g issuer jail command path limit given s alive is at a =
-    subst (λ c. Ran issuer c given f g) (sym is)
-    (reached f g issuer (JailCreate path limit) given s alive (λ near. cc)
-    (subst (λ j. Answered (answer (world_of f) (creation (common_of (world_of f)) j limit (world_of f))) given f g) at a))
-
-pub only_creation : (command : Command) → ((path : Path) (limit : ℕ) → command ≡ JailCreate path limit → ⊥) → is_built_command command ≡ true → ⊥
-unfolding is_built_command
-only_creation (JailCreate path limit) other built = other path limit refl
-only_creation _ other built = false≢true built
 
 -- the outcome is noted
 pub noted : (f g : Fields) (clock lane : ℕ) (issuer : Path) (command copy : Command) (given : Outcome) → clock ≡ f.clock → copy ≡ command → Ran issuer command given f g

@@ -1,7 +1,8 @@
 -- A stack is constructed in sound tables: they stay sound, and it has what the constructors leave.
-use Rattle.std.proofs.Common.{◌≡◌, ◌≢◌, ℕ, ◌==◌, Bool, true, false, List, [], ◌∷◌, map, Option, Some, None, IfSome, refl, sym, ap, ap₂, ◌∙◌, subst, ⊎_elim}
+use Rattle.std.proofs.Common.{◌≡◌, ◌≢◌, ℕ, length, ◌==◌, Bool, true, false, List, [], ◌∷◌, map, Option, Some, None, IfSome, refl, sym, ap, ◌∙◌, subst, ⊎_elim}
 use Rattle.std.specs.Prelude.{if◌then◌else◌, count_by, is_some, unwrap_or}
 use Rattle.std.specs.List.{list_all}
+use Rattle.std.specs.Map.{lookup}
 use Rattle.std.proofs.lemmas.Bool.{both_ways, cases_eq, eq-eqb, ne_eqb}
 use Rattle.vn_types.specs.declared.interface.HalfId.{HalfId}
 use Rattle.vn_types.specs.declared.interface.IfName.{IfName}
@@ -9,29 +10,24 @@ use Rattle.vn_types.specs.declared.interface.IfName.TheVariants as ifname
 use Rattle.vn_types.specs.declared.interface.IfOf.{IfOf}
 use Rattle.vn_types.specs.declared.interface.IfOf.TheVariants.{Lo0, Half}
 use Rattle.vn_types.specs.Interfaces.{half_id_eq, if_same}
-use Rattle.vn_types.specs.PerStack.{ChangesOnly}
-use Rattle.vn_rules.specs.declared.address.AddrOf.{AddrOf}
 use Rattle.vn_rules.specs.declared.parts.PartsOf.{PartsOf}
-use Rattle.vn_rules.specs.declared.route.TargetOf.TheVariants.{Link}
-use Rattle.vn_rules.specs.Construction.{bare_parts, constructed_parts, loopback_ip, loopback_net}
-use Rattle.vn_rules.specs.Routes.{Routed}
+use Rattle.vn_rules.specs.Construction.{bare_parts, constructed_parts}
 use Rattle.vn_rules.specs.Soundness.{is_sound_parts}
-use Rattle.vn_rules.specs.Variables.{first_variables}
+use Rattle.vn_rules.specs.Variables.{declared_variables}
 use Rattle.vn_rules.proofs.Constructed.{constructed_parts-sound}
 use Rattle.vn_epair.specs.Halves.{Pair}
 use Rattle.vn_epair.specs.Pairs.{end_of}
 use Rattle.vn_ifnet.specs.declared.interfaces.Attached.{Attached}
-use Rattle.vn_ifnet.specs.Stacks.{Held, is_another, named, of as held_of, reserved_by, with_last}
-use Rattle.vn_inaddr.specs.Stacks.{of as addresses_of}
-use Rattle.vn_loop.specs.Queues.{Queue, of as loopback_of}
-use Rattle.vn_route.specs.Stacks.{of as routes_of}
-use Rattle.vn_store.specs.Held.{Held as Store, of as variables_of}
-use Rattle.vn_vmove.specs.declared.counts.Counts.{Counts}
+use Rattle.vn_ifnet.specs.Names.{name_number}
+use Rattle.vn_ifnet.specs.Stacks.{Held, is_another, reserved_by}
+use Rattle.vn_loop.specs.Queues.{of as loopback_of}
+use Rattle.vn_store.specs.Held.{of as variables_of}
 use Rattle.vn_vmove.specs.declared.tables.Tables.{Tables}
 use Rattle.vn_vmove.specs.Parts.{held, lives, pair_at, parts}
 use Rattle.vn_vmove.specs.Sound.{IsHomedAs, IsSound, is_rightly_named, times, times_listed}
 use Rattle.vn_vmove.specs.Tallies.{first_counts, of as tallies_of}
-use Rattle.vn_kernel.specs.Construction.{Constructs}
+use Rattle.vn_kernel.specs.Constructors.{constructors}
+use Rattle.vn_kernel.specs.Construction.{Constructs, HaveRun, BuildsOnly, lo0}
 
 none_of : {A : Type 0} (o : Option A) → is_some o ≡ false → o ≡ None
 none_of None is = refl
@@ -53,29 +49,63 @@ module _ (t : Tables) (s : IsSound t) (q : ℕ) (dead : lives t q ≡ false) whe
   pub no-loopback : loopback_of t.loops q ≡ None
   no-loopback = none_of (loopback_of t.loops q) (s.loopbacks q ∙ dead)
 
-  pub no-addresses : addresses_of t.addrs q ≡ []
-  no-addresses = ap (λ (p : PartsOf HalfId). p.addresses) (s.bare q dead)
-
-  pub no-routes : routes_of t.routes q ≡ []
-  no-routes = ap (λ (p : PartsOf HalfId). p.routes) (s.bare q dead)
-
   pub no-interfaces : (held t q).attached ≡ []
   no-interfaces = nothing_attached (held t q).attached (ap (λ (p : PartsOf HalfId). p.interfaces) (s.bare q dead))
 
-  pub no-name : (name : IfName) → named name (held t q) ≡ None
-  no-name name = ap (λ (as' : List Attached). named name (record (held t q) { attached = as' })) no-interfaces
+  -- ---- no constructor has run
+
+  pub unbuilt : HaveRun 0 q t
+  unbuilt = record {
+    rows = s.bare q dead;
+    counts = no-tally;
+    declared = s.declared;
+    variables = no-variables;
+    interfaces = no-interfaces;
+    loopback = no-loopback;
+  }
+
+-- nothing has changed yet
+pub builds-nothing : (number : ℕ) (t : Tables) → BuildsOnly number t t
+builds-nothing number t = record {
+  counts = record { others = λ q ne. refl };
+  variables = record { others = λ q ne. refl };
+  declared = refl;
+  interfaces = record { others = λ q ne. refl };
+  reserved = refl;
+  loopback = record { others = λ q ne. refl };
+  addresses = record { others = λ q ne. refl };
+  routes = record { others = λ q ne. refl };
+  rest = refl;
+}
+
+-- one constructor after others
+pub builds-then : (number : ℕ) (t u v : Tables) → BuildsOnly number t u → BuildsOnly number u v → BuildsOnly number t v
+builds-then number t u v a b = record {
+  counts = record { others = λ q ne. b.counts.others q ne ∙ a.counts.others q ne };
+  variables = record { others = λ q ne. b.variables.others q ne ∙ a.variables.others q ne };
+  declared = b.declared ∙ a.declared;
+  interfaces = record { others = λ q ne. b.interfaces.others q ne ∙ a.interfaces.others q ne };
+  reserved = b.reserved ∙ a.reserved;
+  loopback = record { others = λ q ne. b.loopback.others q ne ∙ a.loopback.others q ne };
+  addresses = record { others = λ q ne. b.addresses.others q ne ∙ a.addresses.others q ne };
+  routes = record { others = λ q ne. b.routes.others q ne ∙ a.routes.others q ne };
+  rest = b.rest ∙ ap (λ (w : Tables). record w { tallies = v.tallies; vars = v.vars; ifs = v.ifs; loops = v.loops; addrs = v.addrs; routes = v.routes }) a.rest;
+}
 
 -- ---- it is constructed
 
-module _ (t : Tables) (s : IsSound t) (sid : ℕ) (dead : lives t sid ≡ false)
-    (tallies : List (Option Counts)) (counts : tallies_of tallies sid ≡ Some first_counts) (other_counts : ChangesOnly sid (tallies_of t.tallies) (tallies_of tallies))
-    (vars : Store) (has_variables : variables_of vars sid ≡ Some (first_variables t.vars.declared)) (same_declared : vars.declared ≡ t.vars.declared) (other_variables : ChangesOnly sid (variables_of t.vars) (variables_of vars))
-    (loops : List (Option Queue)) (queues : loopback_of loops sid ≡ Some []) (other_queues : ChangesOnly sid (loopback_of t.loops) (loopback_of loops))
-    (ifs : List Held) (attached : held_of ifs sid ≡ with_last Lo0 ifname.Lo0 (held t sid)) (other_interfaces : ChangesOnly sid (held t) (held_of ifs))
-    (addrs : List (List (AddrOf HalfId))) (addressed : addresses_of addrs sid ≡ record { on = Lo0; ip = loopback_ip; len = 8 } ∷ []) (other_addresses : ChangesOnly sid (addresses_of t.addrs) (addresses_of addrs))
-    (routes : List (List (Routed HalfId))) (routed : routes_of routes sid ≡ (record { net = loopback_net; len = 8 }, Link Lo0) ∷ []) (other_routes : ChangesOnly sid (routes_of t.routes) (routes_of routes)) where
-  abbrev pub built : Tables
-  built = record t { ifs = ifs; loops = loops; addrs = addrs; routes = routes; vars = vars; tallies = tallies }
+module _ (t u : Tables) (s : IsSound t) (sid : ℕ) (dead : lives t sid ≡ false) (is : HaveRun (length constructors) sid u) (kept : BuildsOnly sid t u) where
+  abbrev built : Tables
+  built = record t { ifs = u.ifs; loops = u.loops; addrs = u.addrs; routes = u.routes; vars = u.vars; tallies = u.tallies }
+
+  counts : tallies_of u.tallies sid ≡ Some first_counts
+  counts = is.counts
+
+  has_variables : variables_of u.vars sid ≡ Some declared_variables
+  has_variables = is.variables
+
+  queues : loopback_of u.loops sid ≡ Some []
+  queues = is.loopback
 
   -- ---- who lives
 
@@ -83,7 +113,7 @@ module _ (t : Tables) (s : IsSound t) (sid : ℕ) (dead : lives t sid ≡ false)
   own-lives = ap is_some counts
 
   other-lives : (q : ℕ) → q ≢ sid → lives built q ≡ lives t q
-  other-lives q ne = ap is_some (other_counts.others q ne)
+  other-lives q ne = ap is_some (kept.counts.others q ne)
 
   living : (q : ℕ) → lives built q ≡ (if q == sid then true else lives t q)
   living q = ⊎_elim
@@ -107,33 +137,21 @@ module _ (t : Tables) (s : IsSound t) (sid : ℕ) (dead : lives t sid ≡ false)
 
   -- ---- what it has
 
-  own-attached : (held built sid).attached ≡ record { what = Lo0; name = ifname.Lo0 } ∷ []
-  own-attached = ap (λ (h : Held). h.attached) attached ∙ ap (λ (as' : List Attached). (with_last Lo0 ifname.Lo0 (record (held t sid) { attached = as' })).attached) (no-interfaces t s sid dead)
+  own-attached : (held built sid).attached ≡ lo0
+  own-attached = is.interfaces
 
   own-parts : parts built sid ≡ constructed_parts
-  own-parts i = record {
-    variables = (ap (λ o. unwrap_or o []) has_variables ∙ ap first_variables s.declared) i;
-    interfaces = ap (map (λ (a : Attached). a.what)) own-attached i;
-    addresses = addressed i;
-    routes = routed i;
-    arp = ap (λ (p : PartsOf HalfId). p.arp) (s.bare sid dead) i;
-    sockets = ap (λ (p : PartsOf HalfId). p.sockets) (s.bare sid dead) i;
-    timers = ap (λ (p : PartsOf HalfId). p.timers) (s.bare sid dead) i;
-    loopback = ap (λ (o : Option Queue). unwrap_or o []) queues i;
-    pings = ap (λ (p : PartsOf HalfId). p.pings) (s.bare sid dead) i;
-    ident = (unwrap_or (counts i) first_counts).ident;
-    drops = (unwrap_or (counts i) first_counts).drops;
-  }
+  own-parts = ap (λ (t : Tables). parts t sid) (sym kept.rest) ∙ is.rows
 
   other-parts : (q : ℕ) → q ≢ sid → parts built q ≡ parts t q
   other-parts q ne i = record (parts t q) {
-    variables = unwrap_or (other_variables.others q ne i) [];
-    interfaces = map (λ (a : Attached). a.what) (other_interfaces.others q ne i).attached;
-    addresses = other_addresses.others q ne i;
-    routes = other_routes.others q ne i;
-    loopback = unwrap_or (other_queues.others q ne i) [];
-    ident = (unwrap_or (other_counts.others q ne i) first_counts).ident;
-    drops = (unwrap_or (other_counts.others q ne i) first_counts).drops;
+    variables = unwrap_or (kept.variables.others q ne i) [];
+    interfaces = map (λ (a : Attached). a.what) (kept.interfaces.others q ne i).attached;
+    addresses = kept.addresses.others q ne i;
+    routes = kept.routes.others q ne i;
+    loopback = unwrap_or (kept.loopback.others q ne i) [];
+    ident = (unwrap_or (kept.counts.others q ne i) first_counts).ident;
+    drops = (unwrap_or (kept.counts.others q ne i) first_counts).drops;
   }
 
   -- ---- what is kept
@@ -171,23 +189,23 @@ module _ (t : Tables) (s : IsSound t) (sid : ℕ) (dead : lives t sid ≡ false)
 
   reserved-same : (q : ℕ) (name : IfName) → reserved_by name (held built q) ≡ reserved_by name (held t q)
   reserved-same q name = ⊎_elim
-      (λ (e : q ≡ sid). ap (λ r. reserved_by name (held built r)) e ∙ ap (reserved_by name) attached ∙ ap (λ r. reserved_by name (held t r)) (sym e))
-      (λ ne. ap (reserved_by name) (other_interfaces.others q ne))
+      (λ (e : q ≡ sid). ap (λ r. reserved_by name (held built r)) e ∙ ap (lookup (λ k. name_number name == k)) kept.reserved ∙ ap (λ r. reserved_by name (held t r)) (sym e))
+      (λ ne. ap (reserved_by name) (kept.interfaces.others q ne))
       (cases_eq q sid)
 
   names : (q : ℕ) → list_all (is_rightly_named built) (held built q).attached ≡ true
   names q = ⊎_elim
       (λ (e : q ≡ sid). ap (λ r. list_all (is_rightly_named built) (held built r).attached) e ∙ ap (list_all (is_rightly_named built)) own-attached)
-      (λ ne. ap (λ (h : Held). list_all (is_rightly_named built) h.attached) (other_interfaces.others q ne) ∙ s.names q)
+      (λ ne. ap (λ (h : Held). list_all (is_rightly_named built) h.attached) (kept.interfaces.others q ne) ∙ s.names q)
       (cases_eq q sid)
 
   built-sound : IsSound built
   built-sound = record {
     tables = tables;
     bare = bare;
-    instances = each-stack (λ q b. b) (λ q. is_some (variables_of vars q)) (ap is_some has_variables) (λ q ne. ap is_some (other_variables.others q ne) ∙ s.instances q);
-    loopbacks = each-stack (λ q b. b) (λ q. is_some (loopback_of loops q)) (ap is_some queues) (λ q ne. ap is_some (other_queues.others q ne) ∙ s.loopbacks q);
-    declared = same_declared ∙ s.declared;
+    instances = each-stack (λ q b. b) (λ q. is_some (variables_of u.vars q)) (ap is_some has_variables) (λ q ne. ap is_some (kept.variables.others q ne) ∙ s.instances q);
+    loopbacks = each-stack (λ q b. b) (λ q. is_some (loopback_of u.loops q)) (ap is_some queues) (λ q ne. ap is_some (kept.loopback.others q ne) ∙ s.loopbacks q);
+    declared = kept.declared ∙ s.declared;
     listed = listed;
     places = λ h. living-too (pair_at t h.pair) (λ (pair : Pair). (end_of h.side pair).at) (s.places h);
     homes = λ n. living-too (pair_at t n) (λ (pair : Pair). pair.home) (s.homes n);
@@ -209,11 +227,12 @@ module _ (t : Tables) (s : IsSound t) (sid : ℕ) (dead : lives t sid ≡ false)
       apart h None is = tt
       apart h (Some pair) is = ap (λ r. is_another r (Some h)) (reserved-same (end_of h.side pair).at (ifname.Epair pair.unit h.side)) ∙ is
 
-  pub constructs : Constructs sid t built
-  constructs = record {
+  -- when all constructors have run
+  pub constructs : Constructs sid t u
+  constructs = subst (Constructs sid t) (sym kept.rest) (record {
     here = own-parts;
     others = record { others = other-parts };
     living = living;
     pairs = refl;
     sound = built-sound;
-  }
+  })

@@ -4,12 +4,21 @@ pub mod Jails
 pub mod Refusals
 pub mod Created
 pub mod Constructed
+pub mod Registering
+pub mod Entered
+pub mod Destructed
+pub mod Destroyed
 pub mod NamedThere
 pub mod moving
 pub mod Answering
 pub mod making
 pub mod ether
+pub mod scenes
+mod Counted
+pub mod removing
 mod Opened
+pub mod Stacks
 mod Commands
+mod Arms
 mod Sections
 mod Runs

@@ -11,6 +11,7 @@ use Rattle.vn_kernel.specs.Fields.{Fields}
 use Rattle.vn_kernel.specs.Machines.{IsHeld, IsKept, IsRun, kept}
 use Rattle.vn_kernel.specs.Stands.{AreFew, HasRoom, IsOpen, Stepped}
 use Rattle.vn_kernel.specs.Worlds.{world_of}
+use Rattle.vn_kernel.proofs.Counted.{counted}
 
 pub still_run : (spent : Bool) (w after : World) (events now : List Event) (event : Event) → spent ≡ false → IsRun (kept spent w) events → after ≡ step w event → now ≡ events ++ event ∷ [] → after ≡ run now
 still_run false w after events now event is ran moved put_is = moved ∙ ap (λ v. step v event) ran ∙ sym (run-last opening events event) ∙ ap run (sym put_is)
@@ -46,8 +47,14 @@ none_kept w events ran none = record {
 
 -- ---- with its state
 
-pub has_room : (f : Fields) (events : ℕ) → AreFew events f → events ≤ EVENTS_MAX → HasRoom f
-has_room f events few short = record { jails = omega (arith, few.jails); pairs = omega (arith, few.pairs) }
+pub has_room : (spent : Bool) (f : Fields) (events : List Event) → spent ≡ false → IsHeld spent f events → HasRoom f
+has_room spent f events is held =
+    let few = held.few is in
+    record {
+      jails = omega (arith, few.jails, held.machine.short);
+      pairs = omega (arith, few.pairs, held.machine.short);
+      counted = counted spent f events is held;
+    }
 
 pub still_held : (spent : Bool) (f g : Fields) (events now : List Event) (event : Event) (count : ℕ) → spent ≡ false → IsHeld spent f events → Stepped event f g
     → now ≡ events ++ event ∷ [] → count ≡ length events → count < EVENTS_MAX → IsValidEvent event → is_built event ≡ true → IsHeld false g now

@@ -7,5 +7,4 @@ pub mod Unmade
 pub mod Found
 pub mod Refused
 pub mod Answered
-pub mod Arms
 pub mod Ended

@@ -3,5 +3,8 @@ pub mod Makings
 pub mod Naming
 pub mod Worlds
 pub mod Stands
+pub mod Constructors
 pub mod Construction
+pub mod Removal
+pub mod Destruction
 pub mod Machines

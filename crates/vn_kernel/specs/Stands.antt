@@ -6,14 +6,16 @@ use Rattle.std.specs.Map.{keys_of}
 use Rattle.vn_types.specs.Entries.{find}
 use Rattle.vn_types.specs.Paths.{Path, Key, path_cmp, key_cmp}
 use Rattle.vn_rules.specs.declared.outcome.Outcome.{Outcome}
-use Rattle.vn_rules.specs.Rules.{Answer}
+use Rattle.vn_rules.specs.Rules.{Answer, Rule, answer}
 use Rattle.vn_jail.specs.Kept.{IsLinked, IsTree}
 use Rattle.vn_jail.specs.Tree.{at, is_known}
-use Rattle.vn_vmove.specs.Parts.{lives, pair_at}
+use Rattle.vn_vmove.specs.Parts.{lives, pair_at, parts}
 use Rattle.vn_vmove.specs.Sound.{IsSound}
+use Rattle.vn_ipcore.specs.Scenes.{HasRoom as CanCount}
 use Rattle.vn_cells.specs.declared.command.Command.{Command}
 use Rattle.vn_cells.specs.declared.event.Event.{Event}
 use Rattle.vn_cells.specs.declared.world.World.{World}
+use Rattle.vn_cells.specs.commands.Taken.{units}
 use Rattle.vn_cells.specs.machine.Step.{commanded, entered, opening, step}
 use Rattle.vn_kernel.specs.Fields.{Fields}
 use Rattle.vn_kernel.specs.Naming.{key_in}
@@ -51,12 +53,30 @@ pub record AreFew (events : ℕ) (f : Fields) : Type 0 where
   -- and at most one pair
   pub pairs : length f.tables.pairs ≤ events
 
--- a path and a pair can get a number
+-- what grows with the events alone is below 2 ^ 63
+pub record AreCounted (f : Fields) : Type 0 where
+  -- milliseconds
+  pub clock : f.clock < 2 ^ 63
+  -- the timers that each stack armed
+  pub armed : (number : ℕ) → (parts f.tables number).timers.armed < 2 ^ 63
+  -- what it counts
+  pub counters : (number : ℕ) → CanCount f.tables number
+
+-- an event can happen: a path can get a number, and a pair a number and a unit
 pub record HasRoom (f : Fields) : Type 0 where
   -- a path
   pub jails : length f.jails < 2 ^ 32
   -- a pair
-  pub pairs : length f.tables.pairs < 2 ^ 32
+  pub pairs : length f.tables.pairs < units
+  -- and what is counted can grow
+  pub counted : AreCounted f
+
+-- all fits together, and the stack of a number lives
+pub record HasStack (number : ℕ) (f : Fields) : Type 0 where
+  -- all fits together
+  pub stands : Stands f
+  -- the stack lives
+  pub alive : (at f.jails number).alive ≡ true
 
 -- as the machine begins: host alone, just constructed
 pub record IsOpen (f : Fields) : Type 0 where
@@ -95,6 +115,10 @@ pub record Answered (a : Answer World) (given : Outcome) (f g : Fields) : Type 0
   pub outcome : given ≡ a.outcome
   -- what it leaves
   pub leaves : Leaves a.left f g
+
+-- it was answered by its rule
+abbrev pub AnsweredBy : (World → Rule World) → Outcome → Fields → Fields → Type 0
+AnsweredBy rule given f g = Answered (answer (world_of f) (rule (world_of f))) given f g
 
 -- a command was run, and its entry is still to be written
 pub record Ran (issuer : Path) (command : Command) (given : Outcome) (f g : Fields) : Type 0 where

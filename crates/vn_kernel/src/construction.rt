@@ -1,32 +1,97 @@
-ghost use Rattle.std.specs.Prelude.{◌≡◌, ◌∷◌, false, [], OnOk};
+ghost use Rattle.std.specs.Prelude.{◌≡◌, ◌+◌, ◌∷◌, ◌++◌, false, [], map, length, OnOk};
 ghost use Rattle.vn_types.specs.PerStack.{ChangesOnly};
 ghost use Rattle.vn_types.specs.declared.interface.IfOf.TheVariants.{Lo0};
 ghost use Rattle.vn_rules.specs.Construction.{loopback_ip, loopback_net};
 ghost use Rattle.vn_rules.specs.declared.route.TargetOf.TheVariants.{Link};
+ghost use Rattle.vn_cells.specs.commands.Jails.{init_entry, rows};
 ghost use Rattle.vn_inaddr.specs.Stacks.{of as addresses_of};
-ghost use Rattle.vn_kernel.specs.Construction.{Constructs};
+ghost use Rattle.vn_kernel.specs.Constructors.{constructors, number_before};
+ghost use Rattle.vn_kernel.specs.Construction.{BuildsOnly, Constructs, HaveRun};
+ghost use Rattle.vn_kernel.specs.Fields.{fields};
+ghost use Rattle.vn_kernel.specs.Worlds.{logged};
 ghost use Rattle.vn_route.specs.Stacks.{of as routes_of};
 ghost use Rattle.vn_vmove.specs.Parts.{lives};
 ghost use Rattle.vn_vmove.specs.Sound.{IsSound};
 
+use crate::constructors::Constructor;
+use crate::state::State;
+use vn_cells::{Entry, What};
 use vn_inaddr::{Addr, Addrs};
 use vn_route::Routes;
-use vn_types::{If, IfName, Ip4, NoMemory, Prefix, Sid};
+use vn_types::{If, IfName, Ip4, List, NoMemory, Path, Prefix, Sid};
 use vn_vmove::Tables;
 
 /// Constructs the stack of a number that does not live: it counts, has the declared variables, and lo0 with
-/// 127.0.0.1/8 and the route of that network.
-pub(crate) fn construct(tables: &mut Tables, sid: Sid) -> Result<(), NoMemory>
+/// 127.0.0.1/8 and the route of that network. The transcript of its path has the constructors' entries.
+pub(crate) fn construct(state: &mut State, path: Path, sid: Sid) -> Result<(), NoMemory>
+    requires sound { IsSound state.old.tables }
+    requires dead { lives state.old.tables sid.0 ≡ false }
+    ensures constructs { OnOk result (Constructs sid.0 state.old.tables state.new.tables) }
+    ensures noted { OnOk result (fields state.new ≡ record (fields state.old) {
+      logs = logged path (map (init_entry state.old.clock) rows) state.old.logs.entries;
+      tables = state.new.tables;
+    }) }
+{
+    let up = state.constructors.up();
+    if let Some(entries) = state.logs.get_mut(&path) {
+        return run_up(up, &mut state.tables, sid, entries, state.clock);
+    }
+    let mut entries = List::with_capacity(state.alloc, up.len())?;
+    run_up(up, &mut state.tables, sid, &mut entries, state.clock)?;
+    state.logs.insert(path, entries)?;
+    Ok(())
+}
+
+/// Lets the constructors run in the stack of a number that does not live, and each write its entry.
+fn run_up(
+    up: &[Constructor],
+    tables: &mut Tables,
+    sid: Sid,
+    entries: &mut List<Entry>,
+    clock: u64,
+) -> Result<(), NoMemory>
+    requires order { up.now ≡ constructors }
     requires sound { IsSound tables.old }
     requires dead { lives tables.old sid.0 ≡ false }
-    ensures { OnOk result (Constructs sid.0 tables.old tables.new) }
+    ensures constructs { OnOk result (Constructs sid.0 tables.old tables.new) }
+    ensures noted { OnOk result (entries.new ≡ entries.old ++ map (init_entry clock) rows) }
 {
-    tables.tallies.make(sid)?;
-    tables.vars.instance(sid)?;
-    tables.loops.make(sid)?;
-    tables.ifs.attach(sid, If::Lo0, IfName::Lo0)?;
-    add_address(&mut tables.addrs, sid)?;
-    add_route(&mut tables.routes, sid)
+    for constructor in up {
+        run(*constructor, tables, sid)?;
+        entries.push(Entry {
+            clock,
+            what: What::Init(constructor.name()),
+        })?;
+    }
+    Ok(())
+}
+
+/// Lets a constructor run in a stack in which those before it have run.
+fn run(constructor: Constructor, tables: &mut Tables, sid: Sid) -> Result<(), NoMemory>
+    requires { HaveRun (number_before constructor) sid.0 tables.old }
+    ensures built { OnOk result (HaveRun (number_before constructor + 1) sid.0 tables.new) }
+    ensures rest { OnOk result (BuildsOnly sid.0 tables.old tables.new) }
+{
+    match constructor {
+        Constructor::VnetData => {
+            tables.tallies.make(sid)?;
+            tables.vars.instance(sid)
+        }
+        Constructor::Loif => {
+            tables.loops.make(sid)?;
+            tables.ifs.attach(sid, If::Lo0, IfName::Lo0)
+        }
+        Constructor::Inaddr => add_address(&mut tables.addrs, sid),
+        Constructor::Route => add_route(&mut tables.routes, sid),
+        // A stack that does not live keeps nothing in their tables.
+        Constructor::VnetIf
+        | Constructor::VnetCloner
+        | Constructor::Arp
+        | Constructor::Ip
+        | Constructor::Icmp
+        | Constructor::Udp
+        | Constructor::VnetIfReturn => Ok(()),
+    }
 }
 
 /// Gives lo0 its address.

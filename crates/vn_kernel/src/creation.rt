@@ -1,15 +1,12 @@
 ghost use Rattle.std.specs.Prelude.{◌≡◌, false, IfOk};
 ghost use Rattle.vn_types.specs.Paths.{is_host};
-ghost use Rattle.vn_rules.specs.Rules.{answer};
 ghost use Rattle.vn_cells.specs.commands.Jails.{creation};
 ghost use Rattle.vn_cells.specs.world.World.{common_of};
 ghost use Rattle.vn_kernel.specs.Fields.{fields};
-ghost use Rattle.vn_kernel.specs.Stands.{Answered, HasRoom, Stands};
-ghost use Rattle.vn_kernel.specs.Worlds.{world_of};
+ghost use Rattle.vn_kernel.specs.Stands.{AnsweredBy, HasRoom, Stands};
 
 use crate::construction::construct;
 use crate::state::State;
-use crate::transcripts::note_construction;
 use vn_cells::Outcome;
 use vn_types::{NoMemory, Path};
 
@@ -18,8 +15,7 @@ pub(crate) fn make_jail(state: &mut State, jail: Path, limit: u32) -> Result<Out
     requires stands { Stands (fields state.old) }
     requires room { HasRoom (fields state.old) }
     requires label { is_host jail ≡ false }
-    ensures { IfOk result (λ outcome. let w = world_of (fields state.old) in
-        Answered (answer w (creation (common_of w) jail limit w)) outcome
+    ensures { IfOk result (λ outcome. AnsweredBy (λ w. creation (common_of w) jail limit w) outcome
         (fields state.old) (fields state.new)) }
 {
     let answer = state.jails.create(&jail, limit)?;
@@ -27,8 +23,7 @@ pub(crate) fn make_jail(state: &mut State, jail: Path, limit: u32) -> Result<Out
         Ok(sid) => sid,
         Err(errno) => return Ok(Outcome::Refused(errno)),
     };
-    construct(&mut state.tables, sid)?;
-    note_construction(state.alloc, &mut state.logs, jail, state.clock)?;
     state.jails.law_of_tree();
+    construct(state, jail, sid)?;
     Ok(Outcome::Done)
 }

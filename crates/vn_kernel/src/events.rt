@@ -5,10 +5,10 @@ ghost use Rattle.vn_kernel.specs.Fields.{fields};
 ghost use Rattle.vn_kernel.specs.Stands.{HasRoom, Leaves, Ran, Stands, Stepped};
 ghost use Rattle.vn_kernel.specs.Worlds.{world_of};
 
-use crate::creation::make_jail;
+use crate::running::run_living;
 use crate::state::State;
 use vn_cells::{Command, Entry, Event, Outcome, What};
-use vn_types::{Boxed, Errno, NoMemory, Path, join};
+use vn_types::{Boxed, Errno, NoMemory, Path};
 
 /// Moves the state by one event, as the machine does.
 pub(crate) fn happen(state: &mut State, event: &Event) -> Result<(), NoMemory>
@@ -53,7 +53,7 @@ fn run_command(
     state.note(issuer, Entry { clock, what })
 }
 
-/// What a command does, if it is not refused, and what it is answered.
+/// What a command does at a path, if it is not refused, and what it is answered.
 fn run_at(state: &mut State, issuer: &Path, command: &Command) -> Result<Outcome, NoMemory>
     requires stands { Stands (fields state.old) }
     requires room { HasRoom (fields state.old) }
@@ -62,14 +62,8 @@ fn run_at(state: &mut State, issuer: &Path, command: &Command) -> Result<Outcome
     ensures { IfOk result (λ outcome.
         Ran issuer.now command.now outcome (fields state.old) (fields state.new)) }
 {
-    if state.jails.alive(issuer).is_none() {
-        return Ok(Outcome::Refused(Errno::NoEnt));
-    }
-    match command {
-        Command::JailCreate { path, children_max } => {
-            let jail = join(state.alloc, issuer, path)?;
-            make_jail(state, jail, *children_max)
-        }
-        _ => unreachable!(),
+    match state.jails.alive(issuer) {
+        None => Ok(Outcome::Refused(Errno::NoEnt)),
+        Some(sid) => run_living(state, sid, issuer, command),
     }
 }

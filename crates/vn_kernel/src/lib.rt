@@ -2,13 +2,20 @@
 //! Each operation is a step of the machine.
 #![tactic(auto)]
 
+mod burial;
 mod construction;
+mod constructors;
 mod creation;
+mod destruction;
 mod ending;
 mod events;
+mod homecoming;
 mod kernel;
+mod links;
 mod moves;
 mod pairs;
+mod removal;
+mod running;
 mod state;
 mod tables;
 mod transcripts;

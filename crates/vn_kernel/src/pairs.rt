@@ -1,80 +1,68 @@
-ghost use Rattle.std.specs.Prelude.{◌≡◌, ◌==◌, ◌<◌, true, length, IfOk};
+ghost use Rattle.std.specs.Prelude.{◌≡◌, ◌==◌, IfOk};
 ghost use Rattle.std.specs.List.{list_all};
 ghost use Rattle.vn_types.specs.declared.interface.IfName.TheVariants.{Epair as Named};
 ghost use Rattle.vn_types.specs.declared.interface.Side.TheVariants.{A};
 ghost use Rattle.vn_types.specs.InterfaceWords.{ifname_text};
 ghost use Rattle.vn_rules.specs.Resolution.{is_no_station};
-ghost use Rattle.vn_rules.specs.Rules.{answer};
 ghost use Rattle.vn_cells.specs.commands.Pairs.{any_making, mac_setting, making};
-ghost use Rattle.vn_cells.specs.commands.Taken.{units};
 ghost use Rattle.vn_cells.specs.machine.Commands.{far_rule};
 ghost use Rattle.vn_cells.specs.machine.Reach.{MakesPair};
 ghost use Rattle.vn_cells.specs.world.World.{common_of};
-ghost use Rattle.vn_jail.specs.Tree.{is_alive};
+ghost use Rattle.vn_jail.specs.Tree.{path_at};
 ghost use Rattle.vn_kernel.specs.Fields.{fields};
-ghost use Rattle.vn_kernel.specs.Stands.{Answered, Stands};
-ghost use Rattle.vn_kernel.specs.Worlds.{world_of};
+ghost use Rattle.vn_kernel.specs.Stands.{AnsweredBy, HasRoom, HasStack};
 
 use crate::state::State;
 use crate::tables;
 use std::alloc::Global;
 use vn_cells::Outcome;
-use vn_types::{Errno, If, IfName, Mac, NoMemory, Octets, Path, Side, write_ifname};
+use vn_types::{Errno, If, IfName, Mac, NoMemory, Octets, Sid, Side, write_ifname};
 
 /// Makes the pair of a unit at home, or of the lowest one that is free, and tells the name of its side a
 /// (ifconfig(8), `create`).
 pub(crate) fn make_pair(
     state: &mut State,
-    issuer: &Path,
+    home: Sid,
     unit: Option<u32>,
 ) -> Result<Outcome, NoMemory>
-    requires stands { Stands (fields state.old) }
-    requires living { is_alive issuer.now (fields state.old).jails ≡ true }
-    requires few { length (fields state.old).tables.pairs < units }
-    ensures { IfOk result (λ outcome. let w = world_of (fields state.old) in
-        Answered (answer w (far_rule (common_of w) issuer.now (MakesPair unit) w)) outcome
+    requires stack { HasStack home.0 (fields state.old) }
+    requires room { HasRoom (fields state.old) }
+    ensures { IfOk result (λ outcome.
+        AnsweredBy (λ w. far_rule (common_of w) (path_at state.old.jails home.0) (MakesPair unit) w) outcome
         (fields state.old) (fields state.new)) }
 {
     match unit {
-        Some(unit) => make_unit(state, issuer, unit),
-        None => make_lowest(state, issuer),
+        Some(unit) => make_unit(state, home, unit),
+        None => make_lowest(state, home),
     }
 }
 
 /// Makes the pair of a unit.
-fn make_unit(state: &mut State, issuer: &Path, unit: u32) -> Result<Outcome, NoMemory>
-    requires stands { Stands (fields state.old) }
-    requires living { is_alive issuer.now (fields state.old).jails ≡ true }
-    requires few { length (fields state.old).tables.pairs < units }
-    ensures { IfOk result (λ outcome. let w = world_of (fields state.old) in
-        Answered (answer w (making issuer.now unit w)) outcome (fields state.old) (fields state.new)) }
+fn make_unit(state: &mut State, home: Sid, unit: u32) -> Result<Outcome, NoMemory>
+    requires stack { HasStack home.0 (fields state.old) }
+    requires room { HasRoom (fields state.old) }
+    ensures { IfOk result (λ outcome. AnsweredBy (making (path_at state.old.jails home.0) unit) outcome
+        (fields state.old) (fields state.new)) }
 {
-    let Some(home) = state.jails.alive(issuer) else {
-        unreachable!()
-    };
     let number = match tables::make_pair(&mut state.tables, home, unit)? {
         Ok(number) => number,
         Err(errno) => return Ok(Outcome::Refused(errno)),
     };
-    let path = issuer.copy()?;
+    let path = state.jails.path(home).copy()?;
     state.units.insert((path, unit), number)?;
     let name = first_name(state.alloc, unit)?;
     Ok(Outcome::Value(name))
 }
 
 /// Makes the pair of the lowest unit that is free.
-fn make_lowest(state: &mut State, issuer: &Path) -> Result<Outcome, NoMemory>
-    requires stands { Stands (fields state.old) }
-    requires living { is_alive issuer.now (fields state.old).jails ≡ true }
-    requires few { length (fields state.old).tables.pairs < units }
-    ensures { IfOk result (λ outcome. let w = world_of (fields state.old) in
-        Answered (answer w (any_making issuer.now w)) outcome (fields state.old) (fields state.new)) }
+fn make_lowest(state: &mut State, home: Sid) -> Result<Outcome, NoMemory>
+    requires stack { HasStack home.0 (fields state.old) }
+    requires room { HasRoom (fields state.old) }
+    ensures { IfOk result (λ outcome. AnsweredBy (any_making (path_at state.old.jails home.0)) outcome
+        (fields state.old) (fields state.new)) }
 {
-    let Some(home) = state.jails.alive(issuer) else {
-        unreachable!()
-    };
     let unit = state.tables.pairs.lowest_free(home, &state.tables.ifs);
-    make_unit(state, issuer, unit)
+    make_unit(state, home, unit)
 }
 
 /// The name of side a of a unit, as text.
@@ -91,15 +79,11 @@ fn first_name(alloc: Global, unit: u32) -> Result<Octets, NoMemory>
 }
 
 /// Gives the half of that name in a living stack a hardware address (ifconfig(8), `ether`). Takes no memory.
-pub(crate) fn set_mac(state: &mut State, issuer: &Path, name: IfName, mac: Mac) -> Outcome
-    requires stands { Stands (fields state.old) }
-    requires living { is_alive issuer.now (fields state.old).jails ≡ true }
-    ensures { let w = world_of (fields state.old) in
-        Answered (answer w (mac_setting issuer.now name mac w)) result (fields state.old) (fields state.new) }
+pub(crate) fn set_mac(state: &mut State, sid: Sid, name: IfName, mac: Mac) -> Outcome
+    requires { HasStack sid.0 (fields state.old) }
+    ensures { AnsweredBy (mac_setting (path_at state.old.jails sid.0) name mac) result
+        (fields state.old) (fields state.new) }
 {
-    let Some(sid) = state.jails.alive(issuer) else {
-        unreachable!()
-    };
     let half = match state.tables.ifs.find(sid, name) {
         None => return Outcome::Refused(Errno::NxIo),
         Some(If::Lo0) => return Outcome::Refused(Errno::Inval),

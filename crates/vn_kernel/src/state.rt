@@ -5,7 +5,8 @@ ghost use Rattle.vn_kernel.specs.Stands.{IsOpen};
 ghost use Rattle.vn_kernel.specs.Worlds.{with_entry, world_of};
 
 use crate::construction::construct;
-use crate::transcripts::{Transcripts, note, note_construction, sections_of};
+use crate::constructors::Constructors;
+use crate::transcripts::{Transcripts, note, sections_of};
 use std::alloc::Global;
 use std::collections::BTreeMap;
 use vn_cells::{Entry, SectionText};
@@ -17,6 +18,8 @@ use vn_vmove::Tables;
 #[derive(Drop)]
 pub(crate) struct State {
     pub(crate) alloc: Global,
+    /// What runs when a stack is constructed or destroyed.
+    pub(crate) constructors: Constructors,
     /// Milliseconds.
     pub(crate) clock: u64,
     /// The paths that were ever constructed, with their numbers.
@@ -36,19 +39,21 @@ impl State {
     {
         let jails = Jails::new(alloc)?;
         jails.law_of_tree();
-        let mut tables = Tables::new(alloc)?;
-        construct(&mut tables, Sid(0))?;
-        let mut logs = BTreeMap::new(alloc);
-        note_construction(alloc, &mut logs, Path::host(alloc), 0)?;
+        let constructors = Constructors::new(alloc)?;
+        let tables = Tables::new(alloc)?;
+        let logs = BTreeMap::new(alloc);
         let units = BTreeMap::new(alloc);
-        Ok(State {
+        let mut state = State {
             alloc,
+            constructors,
             clock: 0,
             jails,
             logs,
             units,
             tables,
-        })
+        };
+        construct(&mut state, Path::host(alloc), Sid(0))?;
+        Ok(state)
     }
 
     /// Adds an entry to the transcript of a path.
@@ -64,6 +69,7 @@ impl State {
     {
         let State {
             alloc,
+            constructors: _,
             clock: _,
             jails: _,
             logs,

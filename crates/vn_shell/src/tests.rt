@@ -75,7 +75,7 @@ fn scripts_are_read(rt: HostRuntime) -> Result<(), Fail> {
         ("1 host jail -c name=a vnet vnet", "1 command"),
         ("1 host jail -c name=a persist", "1 command"),
         ("1 host jail -c name=a name=b vnet persist", "1 command"),
-        ("1 host jail -r a", "1 command"),
+        ("1 host netstat -s", "1 command"),
         (
             "1 host jail -c children.max=9999 name=a vnet persist",
             "phase 1 host a limit ",

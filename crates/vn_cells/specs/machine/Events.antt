@@ -122,6 +122,15 @@ is_valid_script script = list_all is_valid_part script.parts
 -- commands that it runs
 unfoldable pub is_built_command : Command → Bool
 is_built_command (command.JailCreate path children_max) = true
+is_built_command (command.JailRemove path) = true
+is_built_command command.EpairAny = true
+is_built_command (command.EpairCreate unit) = true
+is_built_command (command.Destroy name) = true
+is_built_command (command.Vnet name path) = true
+is_built_command (command.VnetBack name path) = true
+is_built_command (command.Up name) = true
+is_built_command (command.Down name) = true
+is_built_command (command.Ether name mac) = true
 is_built_command _ = false
 
 -- events that it runs

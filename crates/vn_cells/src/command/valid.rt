@@ -33,10 +33,16 @@ impl Command {
         ensures { result ≡ is_built_command self.now }
     {
         match self {
-            Command::JailCreate {
-                path: _,
-                children_max: _,
-            } => true,
+            Command::JailCreate { .. }
+            | Command::JailRemove { .. }
+            | Command::EpairAny
+            | Command::EpairCreate { .. }
+            | Command::Destroy { .. }
+            | Command::Vnet { .. }
+            | Command::VnetBack { .. }
+            | Command::Up { .. }
+            | Command::Down { .. }
+            | Command::Ether { .. } => true,
             _ => false,
         }
     }

@@ -1,6 +1,5 @@
 -- A half gets another hardware address: what is refused, and what the world becomes.
-use Rattle.std.proofs.Common.{◌≡◌, ℕ, ◌+◌, ◌≤◌, Bool, true, false, ◌||◌, List, [], ◌∷◌, length, Option, Some, None, IsSome, unwrap_or, refl, sym, ap, ◌∙◌, subst, arith}
-use Rattle.std.specs.Prelude.{if◌then◌else◌}
+use Rattle.std.proofs.Common.{◌≡◌, ℕ, Bool, true, false, ◌||◌, List, [], ◌∷◌, length, Option, Some, None, IfSome, IsSome, unwrap_or, refl, sym, ap, ◌∙◌, subst, arith}
 use Rattle.std.specs.Option.{is_none, option_map}
 use Rattle.vn_types.specs.declared.address.Mac.{Mac}
 use Rattle.vn_types.specs.declared.errno.Errno.{Errno}
@@ -11,42 +10,44 @@ use Rattle.vn_types.specs.declared.interface.IfOf.{IfOf}
 use Rattle.vn_types.specs.declared.interface.IfOf.TheVariants.{Lo0, Half as OfHalf}
 use Rattle.vn_types.specs.declared.interface.Side.{Side}
 use Rattle.vn_types.specs.declared.interface.Side.TheVariants.{A, B}
-use Rattle.vn_types.specs.Entries.{each}
 use Rattle.vn_types.specs.Interfaces.{as_if}
-use Rattle.vn_types.specs.Paths.{Path, Key}
+use Rattle.vn_types.specs.Paths.{Path}
 use Rattle.vn_types.specs.PerStack.{ChangesOnly}
 use Rattle.vn_types.specs.Refusals.{first_refusal}
 use Rattle.vn_rules.specs.declared.outcome.Outcome.TheVariants.{Done, Refused}
 use Rattle.vn_rules.specs.Named.{is_lo0}
-use Rattle.vn_rules.specs.Renamed.{renamed}
 use Rattle.vn_rules.specs.Resolution.{is_no_station}
-use Rattle.vn_rules.specs.Rules.{Rule, answer}
-use Rattle.vn_epair.specs.Halves.{Pair as PairOfNumber}
-use Rattle.vn_epair.specs.Pairs.{half_of, new_pair, of as number_of_pair, pair_of as pair_known, with_end}
+use Rattle.vn_rules.specs.Rules.{answer}
+use Rattle.vn_rules.specs.Scenes.{is_queue}
+use Rattle.vn_epair.specs.Halves.{End as EndOfNumber, Pair as PairOfNumber}
+use Rattle.vn_epair.specs.Pairs.{end_of as end_at, half_of, new_pair, of as number_of_pair, pair_of as pair_known, with_end}
 use Rattle.vn_ifnet.specs.Stacks.{named}
 use Rattle.vn_jail.specs.Tree.{is_alive, number_of}
 use Rattle.vn_vmove.specs.declared.tables.Tables.{Tables}
 use Rattle.vn_vmove.specs.Nets.{Becomes, net_of, on_pair}
 use Rattle.vn_vmove.specs.Parts.{held, pair_at, parts}
-use Rattle.vn_vmove.specs.Sound.{IsSound, stands_at}
+use Rattle.vn_vmove.specs.Sound.{IsSound}
 use Rattle.vn_vmove.proofs.Deciding.{pick}
 use Rattle.vn_vmove.proofs.Edits.{kept_of}
 use Rattle.vn_vmove.proofs.Names.{found-stands, stands-pair}
-use Rattle.vn_cells.specs.declared.world.World.{World}
+use Rattle.vn_ipcore.proofs.Linked.{named as called_same, sound_linked}
 use Rattle.vn_cells.specs.world.Names.{key_of}
-use Rattle.vn_cells.specs.world.World.{each_pair, edit_pair}
+use Rattle.vn_cells.specs.world.World.{edit_pair}
 use Rattle.vn_cells.specs.commands.Pairs.{mac_setting, with_mac, with_mac_on}
 use Rattle.vn_cells.specs.commands.Taken.{standing}
 use Rattle.vn_kernel.specs.Fields.{Fields}
-use Rattle.vn_kernel.specs.Naming.{half_by, key_by, key_in, name_of}
+use Rattle.vn_kernel.specs.Naming.{half_by, key_in, name_of}
 use Rattle.vn_kernel.specs.Stands.{Answered, Leaves, Stands}
-use Rattle.vn_kernel.specs.Worlds.{children_at, pair_by, stack_of, world_of}
+use Rattle.vn_kernel.specs.Worlds.{pair_by, world_of}
 use Rattle.vn_kernel.proofs.Answering.{answered-done, answered-refused}
-use Rattle.vn_kernel.proofs.ether.Sound.{mac-same, mac-sound, with_mac_at}
 use Rattle.vn_kernel.proofs.moving.Called.{SameNames, called, names-called, stands-called}
 use Rattle.vn_kernel.proofs.moving.Faithful.{key-is}
 use Rattle.vn_kernel.proofs.moving.Found.{standing-alive}
 use Rattle.vn_kernel.proofs.moving.Nets.{pair-edited, world-becomes, world-net, world_in}
+
+-- another hardware address on a side
+abbrev with_mac_at : Side → Mac → PairOfNumber → PairOfNumber
+with_mac_at side mac pair = with_end side (record (end_at side pair) { mac = mac }) pair
 
 module _ (f : Fields) (s : Stands f) where
   -- ---- a half of a pair
@@ -60,9 +61,15 @@ module _ (f : Fields) (s : Stands f) where
     abbrev g : Fields
     g = record f { tables = after }
 
+    abbrev own : EndOfNumber
+    own = record (end_at h.side pair) { mac = mac }
+
+    sound : IsSound after
+    sound = sound_linked s.sound h pair was own refl (subst (λ (o : Option PairOfNumber). IfSome o (λ p. is_queue (end_at h.side p).sent ≡ true)) was (s.sound.queues h)) pairs is others
+
     same_names : SameNames f.tables after
     same_names m = kept_of h.pair (Some (with_mac_at h.side mac pair)) (pair_at f.tables) (number_of_pair pairs) is others (option_map called) m
-        (λ e. (λ i. Some (mac-same (λ home unit at sent. home ≡ pair.home) A h.side mac pair refl i, mac-same (λ home unit at sent. unit ≡ pair.unit) A h.side mac pair refl i)) ∙ sym (ap (option_map called) was))
+        (λ e. (λ i. Some (called_same (λ home unit. home ≡ pair.home) h.side own pair refl i, called_same (λ home unit. unit ≡ pair.unit) h.side own pair refl i)) ∙ sym (ap (option_map called) was))
 
     -- its pair is found by its name
     its_key : key_in f h.pair ≡ Some (key_of (name_of f h))
@@ -93,7 +100,7 @@ module _ (f : Fields) (s : Stands f) where
     unfolding with_mac_on name_of
     mac-leaves = record {
       world = mac-world;
-      stands = stands-called f after same_names s (λ q. refl) (mac-sound s.sound h mac pair was pairs is others);
+      stands = stands-called f after same_names s (λ q. refl) sound;
       grows = record { jails = omega arith; pairs = omega (arith, numbers) };
     }
 

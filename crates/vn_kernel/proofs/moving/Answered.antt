@@ -16,7 +16,7 @@ use Rattle.vn_types.proofs.Options.{none_some}
 use Rattle.vn_types.proofs.RefusalLaws.{none-applies}
 use Rattle.vn_rules.specs.Named.{is_lo0}
 use Rattle.vn_rules.specs.declared.outcome.Outcome.TheVariants.{Done, Refused}
-use Rattle.vn_rules.specs.Rules.{Rule, answer, answer_by}
+use Rattle.vn_rules.specs.Rules.{Rule, answer}
 use Rattle.vn_epair.specs.Halves.{Pair}
 use Rattle.vn_epair.specs.Pairs.{end_of, new_pair, pair_of}
 use Rattle.vn_ifnet.specs.Stacks.{named}
@@ -35,6 +35,7 @@ use Rattle.vn_kernel.specs.Fields.{Fields}
 use Rattle.vn_kernel.specs.Naming.{home_by, name_of}
 use Rattle.vn_kernel.specs.Stands.{Answered, Grows, Stands}
 use Rattle.vn_kernel.specs.Worlds.{world_of}
+use Rattle.vn_kernel.proofs.Answering.{answered-done, answered-left}
 use Rattle.vn_kernel.proofs.moving.Found.{home-alive}
 use Rattle.vn_kernel.proofs.moving.Moved.{moved_stands, moved_world, same_stands, same_world}
 use Rattle.vn_kernel.proofs.moving.Refused.{IsNumberOf, lend-refused, number-lives, number-path, reclaim-refused, standing-same}
@@ -49,28 +50,14 @@ module _ (f : Fields) (s : Stands f) (rule : Rule World) (u : Tables) (sound : I
   -- a command that is refused leaves all as it was
   refused : (bad : Errno) → first_refusal rule.refusals ≡ Some bad → Becomes (net_of f.tables) f.tables u
       → Answered (answer (world_of f) rule) (Refused bad) f (record f { tables = u })
-  unfolding answer_by
-  refused bad is b = record {
-    outcome = ap (λ o. (answer_by o (world_of f) rule.otherwise).outcome) (sym is);
-    leaves = record {
-      world = same_world f u b ∙ ap (λ o. (answer_by o (world_of f) rule.otherwise).left) (sym is);
-      stands = same_stands f u b s sound;
-      grows = grows-same f u b.numbers;
-    };
-  }
+  refused bad is b = answered-left f rule (record f { tables = u }) bad is
+      (record { world = same_world f u b; stands = same_stands f u b s sound; grows = grows-same f u b.numbers })
 
   -- one that nothing refuses does what its rule says
   ran : first_refusal rule.refusals ≡ None → rule.otherwise.outcome ≡ Done → world_of (record f { tables = u }) ≡ rule.otherwise.left → Stands (record f { tables = u })
       → length u.pairs ≡ length f.tables.pairs → Answered (answer (world_of f) rule) Done f (record f { tables = u })
-  unfolding answer_by
-  ran none outcome world stands numbers = record {
-    outcome = sym outcome ∙ ap (λ o. (answer_by o (world_of f) rule.otherwise).outcome) (sym none);
-    leaves = record {
-      world = world ∙ ap (λ o. (answer_by o (world_of f) rule.otherwise).left) (sym none);
-      stands = stands;
-      grows = grows-same f u numbers;
-    };
-  }
+  ran none outcome world stands numbers = answered-done f rule (record f { tables = u }) Done none (sym outcome)
+      (record { world = world; stands = stands; grows = grows-same f u numbers })
 
 -- ---- what stands under a name moves
 

@@ -1,11 +1,9 @@
 -- A pair that is destroyed by its number: the world's answer.
-use Rattle.std.proofs.Common.{◌≡◌, ◌<◌, ℕ, List, [], ◌∷◌, length, Option, Some, None, IfSome, IsSome, unwrap_or, refl, sym, ap, ◌∙◌, subst, arith}
+use Rattle.std.proofs.Common.{◌≡◌, ◌<◌, ℕ, List, length, Option, Some, None, IsSome, unwrap_or, refl, sym, ap, ◌∙◌, subst, arith}
 use Rattle.std.specs.BTreeMap.{is_at}
 use Rattle.std.specs.Map.{remove_entry}
 use Rattle.std.specs.Option.{is_some, option_map}
-use Rattle.vn_types.specs.declared.errno.Errno.{Errno}
 use Rattle.vn_types.specs.declared.errno.Errno.TheVariants as errno
-use Rattle.vn_types.specs.declared.half.Half.{Half}
 use Rattle.vn_types.specs.declared.interface.HalfId.{HalfId}
 use Rattle.vn_types.specs.declared.interface.IfName.{IfName}
 use Rattle.vn_types.specs.declared.interface.IfOf.{IfOf}
@@ -16,7 +14,7 @@ use Rattle.vn_types.specs.Paths.{Path, Key, key_cmp}
 use Rattle.vn_types.specs.Refusals.{first_refusal}
 use Rattle.vn_rules.specs.declared.outcome.Outcome.TheVariants.{Done, Refused}
 use Rattle.vn_rules.specs.LinkCommands.{half_alone}
-use Rattle.vn_rules.specs.Rules.{answer, answer_by}
+use Rattle.vn_rules.specs.Rules.{answer}
 use Rattle.vn_epair.specs.Halves.{Pair}
 use Rattle.vn_epair.specs.Pairs.{new_pair, pair_of}
 use Rattle.vn_ifnet.specs.Stacks.{named}
@@ -33,18 +31,20 @@ use Rattle.vn_cells.specs.commands.Taken.{standing}
 use Rattle.vn_cells.specs.world.Names.{key_of}
 use Rattle.vn_kernel.specs.Fields.{Fields}
 use Rattle.vn_kernel.specs.Naming.{key_by, name_of}
-use Rattle.vn_kernel.specs.Stands.{Answered, Grows, Leaves, Stands}
+use Rattle.vn_kernel.specs.Removal.{EndsPair}
+use Rattle.vn_kernel.specs.Stands.{Answered, Leaves, Stands}
 use Rattle.vn_kernel.specs.Worlds.{world_of}
+use Rattle.vn_kernel.proofs.Answering.{answered-done, answered-refused}
 use Rattle.vn_kernel.proofs.moving.Faithful.{name-is}
 use Rattle.vn_kernel.proofs.moving.Found.{home-alive}
 use Rattle.vn_kernel.proofs.moving.Refused.{IsNumberOf, standing-same}
-use Rattle.vn_kernel.proofs.moving.Unmade.{removed-key, unmade_stands, unmade_world, without_key}
+use Rattle.vn_kernel.proofs.moving.Unmade.{pairs_after, removed-key, unmade_stands, unmade_world, without_key}
 
 -- ---- a pair
 
 module _ (f : Fields) (s : Stands f) (n : ℕ) (exists : IsSome (pair_at f.tables n)) where
   -- what has the number
-  its_pair : pair_at f.tables n ≡ Some (pair_of f.tables.pairs n)
+  pub its_pair : pair_at f.tables n ≡ Some (pair_of f.tables.pairs n)
   its_pair = by (pair_at f.tables n) exists
     where
       by : (o : Option Pair) → IsSome o → o ≡ Some (unwrap_or o (new_pair 0 0))
@@ -58,13 +58,19 @@ module _ (f : Fields) (s : Stands f) (n : ℕ) (exists : IsSome (pair_at f.table
   pub ended : (u : Tables) → Becomes (unmade n (pair_at f.tables n) (net_of f.tables)) f.tables u → IsSound u
       → (home : ℕ) (path : Path) (unit : ℕ) → home ≡ (pair_of f.tables.pairs n).home → path ≡ path_at f.jails home → unit ≡ (pair_of f.tables.pairs n).unit
       → (units : List (Key × ℕ)) → units ≡ remove_entry (is_at (key_cmp (path, unit))) f.units
-      → Leaves (destroyed_pair (key_by f.jails (pair_of f.tables.pairs n)) (world_of f)) f (record f { tables = u; units = units })
+      → EndsPair n f (record f { tables = u; units = units })
   ended u b sound home path unit at is unit_is units removed =
-      subst (λ us. Leaves (destroyed_pair key (world_of f)) f (record f { tables = u; units = us })) (sym left)
+      subst (λ us. EndsPair n f (record f { tables = u; units = us })) (sym left)
       (record {
-        world = unmade_world f s n (pair_of f.tables.pairs n) its_pair u b sound;
-        stands = unmade_stands f s n (pair_of f.tables.pairs n) its_pair u b sound;
-        grows = record { jails = omega arith; pairs = omega (arith, b.numbers) };
+        leaves = record {
+          world = unmade_world f s n (pair_of f.tables.pairs n) its_pair u b sound;
+          stands = unmade_stands f s n (pair_of f.tables.pairs n) its_pair u b sound;
+          grows = record { jails = omega arith; pairs = omega (arith, b.numbers) };
+        };
+        pairs = pairs_after f s n (pair_of f.tables.pairs n) its_pair u b sound;
+        units = refl;
+        numbers = b.numbers;
+        others = refl;
       })
     where
       key : Key
@@ -84,23 +90,11 @@ module _ (f : Fields) (s : Stands f) (issuer : Path) (name : IfName) (sid : Sid)
       → first_refusal (half_alone (option_map (as_if (name_of f)) on)) ≡ first_refusal (destruction issuer name (world_of f)).refusals
   refusal on is = ap (λ o. first_refusal (half_alone (option_map (as_if (name_of f)) o))) is ∙ ap (λ o. first_refusal (half_alone o)) (sym (standing-same s issuer (Some sid) name at))
 
-  module _ (bad : Errno) (why : first_refusal (destruction issuer name (world_of f)).refusals ≡ Some bad) where
-    refuses : Answered (answer (world_of f) (destruction issuer name (world_of f))) (Refused bad) f f
-    unfolding answer_by
-    refuses = record {
-      outcome = ap (λ o. (answer_by o (world_of f) (destruction issuer name (world_of f)).otherwise).outcome) (sym why);
-      leaves = record {
-        world = ap (λ o. (answer_by o (world_of f) (destruction issuer name (world_of f)).otherwise).left) (sym why);
-        stands = s;
-        grows = record { jails = omega arith; pairs = omega arith };
-      };
-    }
-
   pub none-refused : None ≡ named name (held f.tables sid.0) → Answered (answer (world_of f) (destruction issuer name (world_of f))) (Refused errno.NxIo) f f
-  none-refused is = refuses errno.NxIo (sym (refusal None is))
+  none-refused is = answered-refused f (destruction issuer name (world_of f)) s errno.NxIo (sym (refusal None is))
 
   pub lo0-refused : Some Lo0 ≡ named name (held f.tables sid.0) → Answered (answer (world_of f) (destruction issuer name (world_of f))) (Refused errno.Inval) f f
-  lo0-refused is = refuses errno.Inval (sym (refusal (Some Lo0) is))
+  lo0-refused is = answered-refused f (destruction issuer name (world_of f)) s errno.Inval (sym (refusal (Some Lo0) is))
 
   module _ (h : HalfId) (is : Some (OfHalf h) ≡ named name (held f.tables sid.0)) where
     pub half-exists : IsSome (pair_at f.tables h.pair)
@@ -109,15 +103,8 @@ module _ (f : Fields) (s : Stands f) (issuer : Path) (name : IfName) (sid : Sid)
     -- a half that stands there ends with its pair
     pub half-ended : (g : Fields) → Leaves (destroyed_pair (key_by f.jails (pair_of f.tables.pairs h.pair)) (world_of f)) f g
         → Answered (answer (world_of f) (destruction issuer name (world_of f))) Done f g
-    unfolding answer_by destroyed_by
-    half-ended g leaves = record {
-      outcome = ap (λ o. (answer_by o (world_of f) (destruction issuer name (world_of f)).otherwise).outcome) (refusal (Some (OfHalf h)) is);
-      leaves = record {
-        world = leaves.world ∙ sym destroyed ∙ ap (λ o. (answer_by o (world_of f) (destruction issuer name (world_of f)).otherwise).left) (refusal (Some (OfHalf h)) is);
-        stands = leaves.stands;
-        grows = leaves.grows;
-      };
-    }
+    unfolding destroyed_by
+    half-ended g leaves = answered-done f (destruction issuer name (world_of f)) g Done (sym (refusal (Some (OfHalf h)) is)) refl (subst (λ w. Leaves w f g) (sym destroyed) leaves)
       where
         key_is : key_of (name_of f h) ≡ key_by f.jails (pair_of f.tables.pairs h.pair)
         key_is = ap key_of (name-is f h.pair (pair_of f.tables.pairs h.pair) (its_pair f s h.pair half-exists) h.side)

@@ -37,7 +37,7 @@ module _ {f : Fields} (s : Stands f) where
       (λ e. eq-eqb m n (some_same m n (sym (key-found m j is) ∙ ap (λ x. find key_cmp x f.units) ((key_eq-Decides j k).0 e) ∙ key-found n k at)))
       (λ e. (key_eq-Decides j k).1 (some_same j k (sym is ∙ ap (key_in f) (eqb-true m n e) ∙ at)))
 
-  small-unit : (n : ℕ) (pair : Pair) → pair_at f.tables n ≡ Some pair → pair.unit < 2 ^ 32
+  pub small-unit : (n : ℕ) (pair : Pair) → pair_at f.tables n ≡ Some pair → pair.unit < 2 ^ 32
   small-unit n pair is = subst (λ o. IfSome o (λ (pair : Pair). pair.unit < 2 ^ 32)) is (s.small n)
 
   -- of pairs, and of numbers that have none

@@ -64,7 +64,7 @@ module _ {f : Fields} (s : Stands f) where
   abbrev is_right : Attached → Bool
   is_right a = ifname_eq a.name (if_name half_name (as_if (name_of f) a.what))
 
-  all_right : (q : ℕ) → list_all is_right (held f.tables q).attached ≡ true
+  pub all_right : (q : ℕ) → list_all is_right (held f.tables q).attached ≡ true
   all_right q = all_in (is_rightly_named f.tables) is_right (held f.tables q).attached right (s.sound.names q)
     where
       right : (a : Attached) → IsIn a (held f.tables q).attached → is_rightly_named f.tables a ≡ true → is_right a ≡ true
@@ -79,7 +79,7 @@ module _ {f : Fields} (s : Stands f) where
               ap (λ on. ifname_eq a.name (if_name half_name (as_if (name_of f) on))) e ∙ ap (ifname_eq a.name) (called-is g there.0 there.1)
               ∙ sym (ap (λ on. ifname_eq a.name (if_name (name_in f.tables) on)) e)
 
-  named-renamed : (name : IfName) (xs : List Attached) → list_all is_right xs ≡ true
+  pub named-renamed : (name : IfName) (xs : List Attached) → list_all is_right xs ≡ true
       → interface_named half_name name (map (as_if (name_of f)) (what_of xs)) ≡ option_map (as_if (name_of f)) (option_map (λ (a : Attached). a.what) (find_in (λ (a : Attached). ifname_eq a.name name) xs))
   unfolding interface_named
   named-renamed name [] all = refl

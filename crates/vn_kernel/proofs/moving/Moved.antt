@@ -73,7 +73,7 @@ module _ (f : Fields) (s : Stands f) (h : HalfId) (pair : Pair) (is : pair_at f.
       (pair-edited f s (name_of f) net h.pair (key_of (name_of f h)) key-own pair is (placed_at h.side to) (placed_path h.side (path_at f.jails to)) (pair-placed f.jails h.side to pair)))
 
   module _ (u : Tables) (b : Becomes (moved h from to (net_of f.tables)) f.tables u) where
-    moved-pairs : SameNames f.tables u
+    pub moved-pairs : SameNames f.tables u
     unfolding moved
     moved-pairs n = ap (option_map called) (b.pairs n) ∙ by (n == h.pair)
       where

@@ -132,7 +132,7 @@ module _ (f : Fields) (s : Stands f) (n : ℕ) (pair : PairOfNumber) (is : pair_
     becomes : Becomes (unmade n (Some pair) (net_of f.tables)) f.tables u
     becomes = subst (λ o. Becomes (unmade n o (net_of f.tables)) f.tables u) is b
 
-    pairs_after : (m : ℕ) → pair_at u m ≡ (if m == n then None else pair_at f.tables m)
+    pub pairs_after : (m : ℕ) → pair_at u m ≡ (if m == n then None else pair_at f.tables m)
     unfolding unmade
     pairs_after m = becomes.pairs m
 

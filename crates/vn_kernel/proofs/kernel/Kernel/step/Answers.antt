@@ -5,7 +5,7 @@ use Rattle.vn_kernel.proofs.Runs.{has_room, still_held, still_run}
 use Rattle.vn_kernel.proofs.kernel.Kernel.step.Goals as goal
 
 pub happen-requires-clause-room : goal.happen-requires-clause-room
-happen-requires-clause-room c = has_room (fields c.self.inside.state) _ (c.self.invariant.few c.if-self.false) c.self.invariant.machine.short
+happen-requires-clause-room c = has_room c.self.inside.spent (fields c.self.inside.state) c.self.inside.history c.if-self.false c.self.invariant
 
 pub invariant_of-self-2 : goal.invariant_of-self-2
 invariant_of-self-2 c =

@@ -1,0 +1,9 @@
+pub mod Lent
+pub mod Homing
+pub mod Ending
+pub mod Between
+pub mod Stack
+pub mod Killed
+pub mod Vanished
+pub mod Bury
+pub mod Removed

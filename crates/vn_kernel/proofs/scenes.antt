@@ -1,0 +1,4 @@
+pub mod Seen
+pub mod Back
+pub mod Near
+pub mod Named
