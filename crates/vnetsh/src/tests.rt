@@ -1,3 +1,5 @@
+mod rows;
+
 use super::*;
 use crate::edges::{Reader, Writer};
 use std::alloc::Global;
@@ -31,6 +33,9 @@ const TWICE_TOLD: [&str; 7] = [
     "== pool open 0 kept 0\n== history 1\n",
     "cmd 1 host jail -c name=a vnet persist\ncmd 1 host jail -c name=a vnet persist\n== end\n",
 ];
+
+/// A line so short that 200,001 of them are within the limit of the input.
+const UP: &str = "1 a ifconfig lo0 up\n";
 
 const USAGE: &str = "usage: vnetsh run|threads|replay|project CELLS|gen N\n";
 
@@ -77,74 +82,6 @@ fn calm(alloc: Global, words: &[&str], text: &str) -> Result<(ExitCode, Vec<u8>,
     let Writer { octets, .. } = writer;
     let Writer { octets: line, .. } = errors;
     Ok((code, octets, line))
-}
-
-#[test]
-fn runs_are_written(rt: HostRuntime) -> Result<(), Fail> {
-    let alloc = rt.alloc();
-    let rows: [(&str, &str, &[&str]); 4] = [
-        (
-            "empty_script",
-            "",
-            &[
-                "== host\n",
-                CONSTRUCTORS,
-                "== pool open 0 kept 0\n== history 1\n== end\n",
-            ],
-        ),
-        ("create_twice", TWICE, &TWICE_TOLD),
-        (
-            "no_parent_no_room",
-            "1 host jail -c name=a.b vnet persist
-1 host jail -c persist vnet name=a
-# with room for no jail below it
-
- 8  host jail -c name=a.b vnet persist ",
-            &[
-                "== host\n",
-                CONSTRUCTORS,
-                "0 1 jail -c name=a.b vnet persist = ENOENT 2\n",
-                "0 1 jail -c name=a vnet persist = ok\n",
-                "0 8 jail -c name=a.b vnet persist = EPERM 1\n",
-                "== a\n",
-                CONSTRUCTORS,
-                "== pool open 0 kept 0\n== history 1\n",
-                "cmd 1 host jail -c name=a.b vnet persist\n",
-                "cmd 1 host jail -c name=a vnet persist\n",
-                "cmd 8 host jail -c name=a.b vnet persist\n",
-                "== end\n",
-            ],
-        ),
-        (
-            "room_for_one",
-            "1 host jail -c name=a children.max=1 vnet persist
-1 a jail -c name=b vnet persist
-1 a jail -c name=c vnet persist",
-            &[
-                "== host\n",
-                CONSTRUCTORS,
-                "0 1 jail -c name=a vnet persist children.max=1 = ok\n",
-                "== a\n",
-                CONSTRUCTORS,
-                "0 1 jail -c name=b vnet persist = ok\n",
-                "0 1 jail -c name=c vnet persist = EPERM 1\n",
-                "== a.b\n",
-                CONSTRUCTORS,
-                "== pool open 0 kept 0\n== history 1\n",
-                "cmd 1 host jail -c name=a vnet persist children.max=1\n",
-                "cmd 1 a jail -c name=b vnet persist\n",
-                "cmd 1 a jail -c name=c vnet persist\n",
-                "== end\n",
-            ],
-        ),
-    ];
-    for (name, script, told) in rows {
-        let (code, output, line) = calm(alloc, &["run"], script)?;
-        assert_eq!(rt; code, ExitCode::SUCCESS, "{name}");
-        assert_eq!(rt; output, joined(alloc, told)?, "{name}");
-        assert!(rt; line.is_empty(), "{name}");
-    }
-    Ok(())
 }
 
 #[test]
@@ -202,17 +139,20 @@ fn words_may_be_no_text(rt: HostRuntime) -> Result<(), Fail> {
 }
 
 #[test]
-fn an_input_has_a_limit(rt: HostRuntime) -> Result<(), Fail> {
+fn a_run_has_limits(rt: HostRuntime) -> Result<(), Fail> {
     let alloc = rt.alloc();
-    let rows = [(4_194_304usize, 0, ""), (4_194_305, 6, "input too long\n")];
-    for (octets, status, told) in rows {
-        let input = String::from_utf8(vec![in alloc; b'\n'; octets]?)
-            .ok()
-            .ok_or("no text")?;
-        let (code, output, line) = calm(alloc, &["run"], &input)?;
-        assert_eq!(rt; code, ExitCode::from(status));
-        assert_eq!(rt; output.is_empty(), status != 0);
-        assert_eq!(rt; line.as_slice(), told.as_bytes());
+    let rows = [
+        ("\n", 4_194_304usize, 0, ""),
+        ("\n", 4_194_305, 6, "input too long\n"),
+        (UP, 200_000, 0, ""),
+        (UP, 200_001, 7, "too many events\n"),
+    ];
+    for (text, times, status, told) in rows {
+        let script = text.repeat(alloc, times)?;
+        let (code, output, line) = calm(alloc, &["run"], &script)?;
+        assert_eq!(rt; code, ExitCode::from(status), "{times}");
+        assert_eq!(rt; output.is_empty(), status != 0, "{times}");
+        assert_eq!(rt; line.as_slice(), told.as_bytes(), "{times}");
     }
     Ok(())
 }
