@@ -3,11 +3,11 @@
 
 program = crates/vnetsh/out/vnetsh
 PREFIX ?= /usr/local
-script ?= examples/jails.vnet
+script ?= examples/lab.vnet
 export script
 
 help:
-	@echo 'make try      compile without a proof and run examples/jails.vnet, or script=FILE (30 s; at most 1 MiB of output, 60 s)'
+	@echo 'make try      compile without a proof and run examples/lab.vnet, or script=FILE (30 s; at most 1 MiB of output, 60 s)'
 	@echo 'make demo     prove the program, build it and run the same (10 minutes once, then a second)'
 	@echo 'make test     the gate: every proof, the must-fail edits, the tests (30 to 60 minutes once)'
 	@echo 'make program  prove and build $(program)'

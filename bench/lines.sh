@@ -1,7 +1,7 @@
 #!/usr/bin/env bash
 # How long the program takes to read 4,194,304 octets of lane lines, the best of three runs: the last line is
-# refused, so nothing is run. One script has the shortest lines that the program takes, one has lines whose
-# words stand apart, and one has the longest line again and again.
+# refused, so nothing is run. One script has short lines, each of which makes a jail, one has lines whose words
+# stand apart, and one has the longest line again and again.
 # Usage: bench/lines.sh [PROGRAM]. Nothing fails by it.
 set -u
 cd "$(dirname "$0")/.." || exit 1

@@ -3,7 +3,7 @@
 # Usage: checks/edges.sh PROGRAM. Its last line is 'N passed, M failed'.
 set -u
 program=$1
-script=examples/jails.vnet
+script=examples/lab.vnet
 scratch=$(mktemp -d) || exit 1
 trap 'rm -rf "$scratch"' EXIT
 passed=0
@@ -29,9 +29,9 @@ expect_output() {
     fi
 }
 
-# in_readme FILE: whether the README has it, four spaces to the right, but for the lines of constructors.
+# in_readme FILE: whether the README has what comes by standard input, four spaces to the right, which is from that file.
 in_readme() {
-    if [[ "$(cat README.md)" == *"$(grep -v -- '- init' "$1" | sed 's/^\(.\)/    \1/')"* ]]; then
+    if [[ "$(cat README.md)" == *"$(sed 's/^\(.\)/    \1/')"* ]]; then
         passed=$((passed + 1))
     else
         failed=$((failed + 1))
@@ -39,19 +39,21 @@ in_readme() {
     fi
 }
 
-in_readme "$script"
-in_readme examples/jails.out
+in_readme examples/lab.vnet < examples/lab.vnet
+in_readme examples/lab.out < <(sed '/ - /d; /^== pool/,$d' examples/lab.out)
+
+for example in examples/*.vnet; do
+    "$program" run < "$example" > "$scratch/output" 2> "$scratch/line"; status=$?
+    expect "$example" 0 ''
+    expect_output "$example" "${example%.vnet}.out"
+done
 
 usage='usage: vnetsh run|threads|replay|project CELLS|gen N'
 : > "$scratch/nothing"
 
-"$program" run < "$script" > "$scratch/output" 2> "$scratch/line"; status=$?
-expect "a file" 0 ''
-expect_output "a file" examples/jails.out
-
 cat "$script" | "$program" run 2> "$scratch/line" | cat > "$scratch/output"; status=${PIPESTATUS[1]}
 expect "pipes" 0 ''
-expect_output "pipes" examples/jails.out
+expect_output "pipes" "${script%.vnet}.out"
 
 "$program" run < "$script" > /dev/full 2> "$scratch/line"; status=$?
 expect "a full output" 4 'write fault'
@@ -59,8 +61,8 @@ expect "a full output" 4 'write fault'
 "$program" run < "$script" 2> "$scratch/line" >&-; status=$?
 expect "a closed output" 4 'write fault'
 
-yes '1 host jail -c name=a vnet persist' | head -n 20000 > "$scratch/long"
-"$program" run < "$scratch/long" 2> "$scratch/line" | head -n 1 > "$scratch/output"; status=${PIPESTATUS[0]}
+yes '1 host jail -c name=a vnet persist' | head -n 20000 > "$scratch/large"
+"$program" run < "$scratch/large" 2> "$scratch/line" | head -n 1 > "$scratch/output"; status=${PIPESTATUS[0]}
 expect "a pipe whose reader ends" 4 'write fault'
 
 "$program" run < . > "$scratch/output" 2> "$scratch/line"; status=$?
@@ -77,6 +79,13 @@ expect "4,194,304 octets" 0 ''
 yes '' | head -c 4194305 | "$program" run > "$scratch/output" 2> "$scratch/line"; status=$?
 expect "4,194,305 octets" 6 'input too long'
 expect_output "4,194,305 octets" "$scratch/nothing"
+
+yes '1 a ifconfig lo0 up' | head -n 200000 | "$program" run > "$scratch/output" 2> "$scratch/line"; status=$?
+expect "200,000 events" 0 ''
+
+yes '1 a ifconfig lo0 up' | head -n 200001 | "$program" run > "$scratch/output" 2> "$scratch/line"; status=$?
+expect "200,001 events" 7 'too many events'
+expect_output "200,001 events" "$scratch/nothing"
 
 printf '1 host jail -c name=a vnet persist\n1 host jail -c nme=b vnet persist\n' > "$scratch/typo"
 "$program" run < "$scratch/typo" > "$scratch/output" 2> "$scratch/line"; status=$?

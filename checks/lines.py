@@ -7,8 +7,8 @@ import subprocess
 import sys
 
 LINES = 1000
-# The forms that the program runs, by the first words of their canonical text.
-BUILT = ("jail -c",)
+# The forms that the program runs: of jail(8) by the first word behind its name, of ifconfig(8) by the second.
+BUILT = {"jail": (1, ("-c", "-r")), "ifconfig": (2, ("create", "destroy", "vnet", "-vnet", "up", "down", "ether"))}
 
 dice = random.Random(20260)
 pick, upto = dice.choice, lambda most: dice.randint(0, most)
@@ -156,6 +156,17 @@ MISTAKES = (
 )
 
 
+def is_built(reading):
+    """Whether a reading asks for what the program runs."""
+    words = reading.split()[2:]
+    place, verbs = BUILT.get(words[0], (0, ())) if words else (0, ())
+    return len(words) > place and words[place] in verbs
+
+
+# What names a jail that is too deep, where the issuer has 8 labels.
+DEEP = ("jail -c vnet persist name=b", "jail -r b", "ifconfig lo0 vnet b", "ifconfig epair0a -vnet b")
+
+
 def line():
     """A line, and its reading: what it asks for at its path, or a reason."""
     lane, depth = str(dice.randint(1, 8)), upto(7)
@@ -166,8 +177,8 @@ def line():
         words, reading = pick(MISTAKES)(lane, at, words)
     else:
         words = [lane, at] + words
-        if upto(7) == 0 and text.startswith("jail -c"):
-            words = [lane, ".".join(["a"] * 8), "jail", "-c", "vnet", "persist", "name=b"]
+        if upto(7) == 0 and is_built(reading):
+            words = [lane, ".".join(["a"] * 8)] + pick(DEEP).split()
             reading = "depth"
     spaces = lambda: " " * pick((1, 1, 3))
     spelt = words[0] + "".join(spaces() + w for w in words[1:])
@@ -190,8 +201,7 @@ def main():
         return 0
     read, before, wrong = [], [], 0
     for text, reading in made:
-        built = reading.split(" ", 2)[2:] and reading.split(" ", 2)[2].startswith(BUILT)
-        if built:
+        if is_built(reading):
             read.append(reading)
             before.append(text)
             continue

@@ -38,11 +38,24 @@ each() {
     echo "$1: $count allocations"
 }
 
-each examples/jails.vnet
-for jail in a a.b b c c.d e f g h i j k; do
-    echo "1 host jail -c name=$jail vnet persist"
+each examples/lab.vnet
+# Jails with a jail below each, to which halves are lent; some come back, some go home when that jail ends.
+for jail in a a.b b c c.d e; do
+    echo "1 host jail -c name=$jail vnet persist children.max=1"
     echo "2 $jail jail -c name=x persist vnet"
+    for pair in epair0 epair7; do
+        echo "3 $jail ifconfig $pair create"
+        echo "3 $jail ifconfig ${pair}a vnet x"
+        echo "4 $jail.x ifconfig ${pair}a ether 02:00:00:00:00:99"
+        echo "4 $jail.x ifconfig ${pair}a up"
+    done
+    echo "3 $jail ifconfig epair create"
+    echo "4 $jail.x ifconfig epair7a down"
+    echo "3 $jail ifconfig epair7a -vnet x"
+    echo "3 $jail ifconfig epair7a destroy"
+    echo "2 $jail jail -r x"
 done > "$scratch/middling"
+echo "1 host jail -r a" >> "$scratch/middling"
 each "$scratch/middling"
 echo "$passed passed, $failed failed"
 [ "$failed" = 0 ]
