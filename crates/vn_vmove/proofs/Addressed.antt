@@ -10,7 +10,6 @@ use Rattle.vn_types.specs.declared.errno.Errno.TheVariants.{AddrNotAvail}
 use Rattle.vn_types.specs.declared.interface.HalfId.{HalfId}
 use Rattle.vn_types.specs.declared.interface.IfOf.TheVariants.{Half}
 use Rattle.vn_types.specs.Interfaces.{half_id_eq, if_same}
-use Rattle.vn_types.specs.PerStack.{ChangesOnly}
 use Rattle.vn_types.specs.Refusals.{IsRefusedBy, first_refusal}
 use Rattle.vn_types.proofs.InterfaceNames.{half_id_eq-Decides, if_same-Decides}
 use Rattle.vn_rules.specs.declared.address.AddrOf.{AddrOf}
@@ -22,7 +21,7 @@ use Rattle.vn_rules.specs.Purge.{dropped, purged, without_addr, without_addrs, w
 use Rattle.vn_rules.proofs.AddressRemoval.{without_addr-addresses}
 use Rattle.vn_rules.proofs.ListTests.{all_kept, found-some, none_weaker}
 use Rattle.vn_vmove.specs.declared.tables.Tables.{Tables}
-use Rattle.vn_vmove.specs.Leaving.{KeepsRest, Leaves, unaddressed}
+use Rattle.vn_vmove.specs.Leaving.{KeepsOthers, KeepsRest, Leaves, unaddressed}
 use Rattle.vn_vmove.specs.Nets.{Becomes, net_of, on_stack}
 use Rattle.vn_vmove.specs.Parts.{parts}
 use Rattle.vn_vmove.specs.Sound.{IsSound}
@@ -139,7 +138,7 @@ module _ (h : HalfId) where
   pub record IsTurn (sid : ℕ) (t u : Tables) : Type 0 where
     pub end : unaddressed h (parts u sid) ≡ unaddressed h (parts t sid)
     pub fewer : length (filter on (parts u sid).addresses) < length (filter on (parts t sid).addresses)
-    pub others : ChangesOnly sid (parts t) (parts u)
+    pub others : KeepsOthers sid t u
 
   pub turn : (ip : Ip4) (sid : ℕ) (t u : Tables) → IsSound t → first half_id_eq (Half h) (parts t sid).addresses ≡ Some ip → Becomes (on_stack sid (dropped half_id_eq (Half h) ip) (net_of t)) t u → KeepsRest t u → IsSound u → IsTurn sid t u
   turn ip sid t u sound is becomes rest after =

@@ -35,14 +35,22 @@ pub record KeepsRest (old new : Tables) : Type 0 where
 abbrev pub KnowsTimers : Tables → ℕ → Type 0
 KnowsTimers t q = KnowsArms half_id_eq (arp_of t.arp q) (timers_of t.wheel q)
 
+-- where a stack's arm numbers were those of its timers, they are still
+abbrev pub KeepsArms : Tables → Tables → Type 0
+KeepsArms old new = (q : ℕ) → KnowsTimers old q → KnowsTimers new q
+
+-- the tables of each other stack are as before
+abbrev pub KeepsOthers : ℕ → Tables → Tables → Type 0
+KeepsOthers sid old new = ChangesOnly sid (parts old) (parts new)
+
 -- the tables of one stack become what a rule makes of them, and nothing else changes
 pub record Leaves (rule : PartsOf HalfId → PartsOf HalfId) (sid : ℕ) (old new : Tables) : Type 0 where
   -- its own
   pub here : parts new sid ≡ rule (parts old sid)
   -- those of each other stack
-  pub others : ChangesOnly sid (parts old) (parts new)
-  -- where a stack's arm numbers were those of its timers, they are still
-  pub arms : (q : ℕ) → KnowsTimers old q → KnowsTimers new q
+  pub others : KeepsOthers sid old new
+  -- the arm numbers that fitted the timers
+  pub arms : KeepsArms old new
   -- what no rule of a purge touches
   pub rest : KeepsRest old new
 

@@ -1,4 +1,3 @@
-ghost use Rattle.std.specs.Prelude.{◌≡◌};
 ghost use Rattle.vn_types.specs.Interfaces.{half_id_eq};
 ghost use Rattle.vn_rules.specs.Purge.{purged, without_names};
 ghost use Rattle.vn_vmove.specs.Leaving.{KeepsRest, KnowsTimers, Leaves, unaddressed};
