@@ -3,6 +3,8 @@ use Rattle.std.proofs.Common.{◌≡◌, ℕ, ◌+◌, ◌-◌, ◌≤◌, ◌<�
 use Rattle.std.specs.Prelude.{filter, slice_get}
 use Rattle.std.specs.List.{list_all}
 use Rattle.std.proofs.lemmas.Option.{slice_get_within}
+use Rattle.vn_types.specs.declared.address.Ip4.{Ip4}
+use Rattle.vn_types.specs.declared.address.Mac.{Mac}
 use Rattle.vn_types.specs.declared.interface.HalfId.{HalfId}
 use Rattle.vn_types.specs.declared.interface.IfOf.TheVariants.{Half}
 use Rattle.vn_types.specs.Interfaces.{half_id_eq}
@@ -13,10 +15,13 @@ use Rattle.vn_rules.specs.Scenes.{SceneOf}
 use Rattle.vn_packets.specs.declared.tally.Tally.{Tally}
 use Rattle.vn_packets.specs.declared.tally.Tally.TheVariants.{Arp, Full, Icmp, Ip, Link, Udp}
 use Rattle.vn_packets.specs.AddressLinks.{all_announced}
-use Rattle.vn_packets.specs.ArpPackets.{announced}
+use Rattle.vn_packets.specs.ArpPackets.{announced, arp_frame, gratuitous}
+use Rattle.vn_packets.specs.Datagrams.{broadcast_mac}
 use Rattle.vn_packets.specs.Growth.{CountsGrow, Grows}
+use Rattle.vn_packets.specs.Links.{sent}
 use Rattle.vn_packets.proofs.ArpPacketGrowth.{announced-grows}
 use Rattle.vn_packets.proofs.SceneGrowth.{counts-same, counts-then, grows-either, grows-more, grows-refl}
+use Rattle.vn_epair.specs.Pairs.{half_of}
 use Rattle.vn_vmove.specs.declared.tables.Tables.{Tables}
 use Rattle.vn_vmove.specs.Parts.{parts}
 use Rattle.vn_vmove.specs.Sound.{IsSound}
@@ -24,8 +29,9 @@ use Rattle.vn_vmove.specs.Tallies.{drops_of}
 use Rattle.vn_vmove.proofs.Founded.{sound-addresses}
 use Rattle.vn_vmove.proofs.Walk.{drop_here, drop_none, few-seen, is_word, seen-more}
 use Rattle.vn_ipcore.specs.Announcing.{announced_of}
-use Rattle.vn_ipcore.specs.Scenes.{HasRoom, HasRoomFor, Replaces, scene_of}
-use Rattle.vn_ipcore.proofs.Back.{goes_on, replaces_as, replaces_same}
+use Rattle.vn_ipcore.specs.Scenes.{HasRoom, HasRoomFor, Replaces, StandsIn, scene_of}
+use Rattle.vn_ipcore.proofs.Back.{ChangesWithin, goes_on, replaces_as, replaces_same}
+use Rattle.vn_ipcore.proofs.Sent.{sent_own}
 
 abbrev Addresses : Type 0
 Addresses = List (AddrOf HalfId)
@@ -38,7 +44,7 @@ own h addresses = filter (is_on half_id_eq (Half h)) addresses
 
 -- from the place on, what is left to announce leads to the same end
 pub record IsOnWay (q : ℕ) (h : HalfId) (place : ℕ) (start now : Tables) : Type 0 where
-  pub replaces : Replaces q (scene_of now q) start now
+  pub replaces : ChangesWithin q start now
   pub addresses : (parts now q).addresses ≡ (parts start q).addresses
   pub left : all_announced half_id_eq h (own h (drop place (parts start q).addresses)) (scene_of now q)
       ≡ all_announced half_id_eq h (own h (parts start q).addresses) (scene_of start q)
@@ -49,6 +55,13 @@ pub at_first : {t : Tables} → IsSound t → (q : ℕ) (h : HalfId) → IsOnWay
 at_first {t} s q h = record { replaces = replaces_same s q; addresses = refl; left = refl; counts = counts-same (parts t q).drops (parts t q).drops refl; seen = refl }
 
 -- ---- one address more
+
+-- the frame that tells it went out
+pub told : {t u : Tables} {q : ℕ} {h : HalfId} → StandsIn q h t → (ip : Ip4) (mac : Mac) → mac ≡ (half_of t.pairs h).mac
+    → (frame : List ℕ) → frame ≡ arp_frame broadcast_mac (gratuitous mac ip) → Replaces q (sent half_id_eq h frame (scene_of t q)) t u
+    → Replaces q (announced half_id_eq h ip (scene_of t q)) t u
+unfolding announced
+told here ip = sent_own here (λ (mac : Mac). arp_frame broadcast_mac (gratuitous mac ip))
 
 own-grows : (h : HalfId) (a : AddrOf HalfId) (s : SceneOf HalfId) → Grows 1 0 s.parts (announced_of h a s).parts
 own-grows h a s = grows-either s (announced half_id_eq h a.ip s) s (is_on half_id_eq (Half h) a) (announced-grows half_id_eq h a.ip s)

@@ -5,13 +5,13 @@ use Rattle.vn_types.specs.declared.interface.HalfId.{HalfId}
 use Rattle.vn_types.specs.declared.interface.Side.{Side}
 use Rattle.vn_types.specs.declared.interface.Side.TheVariants.{A, B}
 use Rattle.vn_types.specs.Interfaces.{half_id_eq}
-use Rattle.vn_types.specs.PerStack.{ChangesOnly}
 use Rattle.vn_types.proofs.PerStackLaws.{unchanged}
 use Rattle.vn_rules.specs.declared.parts.PartsOf.{PartsOf}
 use Rattle.vn_rules.specs.Scenes.{SceneOf, link_of}
 use Rattle.vn_epair.specs.Halves.{End, Pair}
 use Rattle.vn_epair.specs.Pairs.{end_of}
 use Rattle.vn_vmove.specs.declared.tables.Tables.{Tables}
+use Rattle.vn_vmove.specs.Leaving.{KeepsOthers}
 use Rattle.vn_vmove.specs.Moves.{half_on}
 use Rattle.vn_vmove.specs.Nets.{Becomes, net_of}
 use Rattle.vn_vmove.specs.Parts.{lives, pair_at, parts}
@@ -42,7 +42,7 @@ IsNear q (Some old) None = ⊥
 
 -- all tables
 pub record Near (q : ℕ) (old new : Tables) : Type 0 where
-  pub others : ChangesOnly q (parts old) (parts new)
+  pub others : KeepsOthers q old new
   pub interfaces : (parts new q).interfaces ≡ (parts old q).interfaces
   pub pairs : (n : ℕ) → IsNear q (pair_at old n) (pair_at new n)
   pub lives : (r : ℕ) → lives new r ≡ lives old r
@@ -118,7 +118,11 @@ module _ {u : Tables} (sound : IsSound u) (q : ℕ) where
 
 -- ---- nothing, and one after another
 
-pub replaces_same : {t : Tables} → IsSound t → (q : ℕ) → Replaces q (scene_of t q) t t
+-- what changed is of one stack and of its halves
+abbrev pub ChangesWithin : ℕ → Tables → Tables → Type 0
+ChangesWithin q old new = Replaces q (scene_of new q) old new
+
+pub replaces_same : {t : Tables} → IsSound t → (q : ℕ) → ChangesWithin q t t
 replaces_same {t} sound q = replaces sound q t (scene_of t q) (near_same q t) refl
 
 pub replaces_as : {t u : Tables} {q : ℕ} (r s : SceneOf HalfId) → r ≡ s → Replaces q r t u → Replaces q s t u
@@ -156,7 +160,7 @@ module _ (q : ℕ) (r s : SceneOf HalfId) (t u v : Tables) where
   replaces_then one two = record { becomes = becomes_then one.becomes two.becomes; here = two.here; sound = two.sound }
 
 -- what was changed up to here, and one rule more
-pub goes_on : {t u v : Tables} {q : ℕ} {s : SceneOf HalfId} → Replaces q (scene_of u q) t u → Replaces q s u v → Replaces q (scene_of v q) t v
+pub goes_on : {t u v : Tables} {q : ℕ} {s : SceneOf HalfId} → ChangesWithin q t u → Replaces q s u v → ChangesWithin q t v
 goes_on {t} {u} {v} {q} {s} before more = replaces_then q (scene_of u q) (scene_of v q) t u v before (replaces_as s (scene_of v q) (sym more.here) more)
 
 -- ---- who stands where is as it was
@@ -177,5 +181,9 @@ stands_then {t} {u} {q} {s} one r h = ap (stands_at r h.side) (one.becomes.pairs
     by A (Some pair) = ap (λ n. n == r) (end-at q s (half_on A h.pair) pair.a)
     by B (Some pair) = ap (λ n. n == r) (end-at q s (half_on B h.pair) pair.b)
 
+-- also where the pair was as before, though other tables had changed
+pub there_then : {t u v : Tables} {q : ℕ} {s : SceneOf HalfId} {h : HalfId} → pair_at u h.pair ≡ pair_at t h.pair → Replaces q s u v → StandsIn q h t → StandsIn q h v
+there_then {q = q} {h = h} same one here = record { sound = one.sound; stands = stands_then one q h ∙ ap (stands_at q h.side) same ∙ here.stands }
+
 pub still_there : {t u : Tables} {q : ℕ} {s : SceneOf HalfId} {h : HalfId} → Replaces q s t u → StandsIn q h t → StandsIn q h u
-still_there {q = q} {h = h} one here = record { sound = one.sound; stands = stands_then one q h ∙ here.stands }
+still_there one here = there_then refl one here

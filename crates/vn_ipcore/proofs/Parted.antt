@@ -20,7 +20,7 @@ use Rattle.vn_packets.proofs.SceneSound.{lost-keeps, parts-sound, scene-sound}
 use Rattle.vn_store.specs.Held.{of as variables_of}
 use Rattle.vn_vmove.specs.declared.counts.Counts.{Counts}
 use Rattle.vn_vmove.specs.declared.tables.Tables.{Tables}
-use Rattle.vn_vmove.specs.Leaving.{KnowsTimers}
+use Rattle.vn_vmove.specs.Leaving.{KeepsArms, KeepsOthers}
 use Rattle.vn_vmove.specs.Parts.{lives, pair_at, parts}
 use Rattle.vn_vmove.specs.Sound.{IsSound, times, times_listed}
 use Rattle.vn_vmove.specs.Tallies.{after_count, counts_of, first_counts, of as tallies_of}
@@ -40,12 +40,12 @@ module _ (t w : Tables) (q : ℕ) where
 
   -- what changes is of one stack, and the same stacks live
   pub record Parted : Type 0 where
-    pub others : ChangesOnly q (parts t) (parts with_rest)
+    pub others : KeepsOthers q t with_rest
     pub lives : (r : ℕ) → lives w r ≡ lives t r
     pub instances : (r : ℕ) → is_some (variables_of w.vars r) ≡ is_some (variables_of t.vars r)
     pub loopbacks : (r : ℕ) → is_some (loopback_of w.loops r) ≡ is_some (loopback_of t.loops r)
     pub declared : w.vars.declared ≡ t.vars.declared
-    pub arms : (r : ℕ) → KnowsTimers t r → KnowsTimers w r
+    pub arms : KeepsArms t w
 
 module _ {t : Tables} (s : IsSound t) (w : Tables) (q : ℕ) (alive : lives t q ≡ true) (p : Parted t w q)
     (rule : Parts → Parts) (here : parts (with_rest t w q) q ≡ rule (parts t q)) (keeps : is_sound_parts half_id_eq (rule (parts t q)) ≡ true) where

@@ -36,7 +36,7 @@ use Rattle.vn_vmove.proofs.Names.{listed-stands}
 use Rattle.vn_vmove.proofs.Walk.{drop_here, drop_none}
 use Rattle.vn_ipcore.specs.Scenes.{HasRoom, HasRoomFor, Replaces, scene_of}
 use Rattle.vn_ipcore.proofs.Announced.{counts_rise}
-use Rattle.vn_ipcore.proofs.Back.{goes_on, replaces_as, replaces_same, replaces_then}
+use Rattle.vn_ipcore.proofs.Back.{ChangesWithin, goes_on, replaces_as, replaces_same, replaces_then}
 use Rattle.vn_ipcore.proofs.Parted.{Parted, replaces_parted}
 use Rattle.vn_ipcore.proofs.Sent.{lives-where}
 
@@ -85,7 +85,7 @@ learnt-sound {t} s q h stands ip known now mac is_target =
 
 -- what is left to send leads to the same end
 pub record IsSending (q : ℕ) (h : HalfId) (to : Mac) (all : List (List ℕ)) (left : List (List ℕ)) (start now : Tables) : Type 0 where
-  pub replaces : Replaces q (scene_of now q) start now
+  pub replaces : ChangesWithin q start now
   pub same : sent_datagrams half_id_eq h to left (scene_of now q) ≡ sent_datagrams half_id_eq h to all (scene_of start q)
   pub room : HasRoomFor (length left) now q
 

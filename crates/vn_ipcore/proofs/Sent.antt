@@ -1,6 +1,7 @@
 -- A half sends a frame, in the tables as in the rule.
 use Rattle.std.proofs.Common.{◌≡◌, ℕ, ◌+◌, Bool, true, false, cond, not, nat_le, List, [], ◌∷◌, ◌++◌, length, length-append, Option, Some, None, Result, Ok, Err, IfSome, IsSome, OnErr, OnOk, is_err, refl, sym, ap, ◌∙◌, subst, arith}
 use Rattle.std.proofs.lemmas.Bool.{eqb-true, leb-false, le-leb}
+use Rattle.vn_types.specs.declared.address.Mac.{Mac}
 use Rattle.vn_types.specs.declared.errno.Errno.{Errno}
 use Rattle.vn_types.specs.declared.errno.Errno.TheVariants.{NetDown, NoBufs}
 use Rattle.vn_types.specs.declared.interface.HalfId.{HalfId}
@@ -56,19 +57,12 @@ pub if_ok : {T : Type 0} (r : Result T Errno) (P : Type 0) → is_err r ≡ fals
 if_ok (Ok x) P e holds = holds
 if_ok (Err x) P e holds = cc
 
--- with one frame more a queue that has room is not too long
-still_short : (frame : List ℕ) (frames : List (List ℕ)) → nat_le SENT_MAX (length frames) ≡ false → is_queue (frames ++ frame ∷ []) ≡ true
-still_short frame frames free =
-    let less = leb-false SENT_MAX (length frames) free in
-    let longer : length (frames ++ frame ∷ []) ≡ length frames + 1 = length-append frames (frame ∷ []) in
-    le-leb (length (frames ++ frame ∷ [])) SENT_MAX (omega (arith, less, longer))
-
 -- ---- a half that stands in the stack
 
 -- where a half stands, there is its pair
-pub pair-stands : (q : ℕ) (h : HalfId) (o : Option Pair) → stands_at q h.side o ≡ true → IsSome o
-pair-stands q h None e = cc
-pair-stands q h (Some pair) e = refl
+pub pair_stands : (q : ℕ) (h : HalfId) (o : Option Pair) → stands_at q h.side o ≡ true → IsSome o
+pair_stands q h None e = cc
+pair_stands q h (Some pair) e = refl
 
 -- and the stack lives
 pub lives-where : {t : Tables} → IsSound t → (q : ℕ) (h : HalfId) → stands_at q h.side (pair_at t h.pair) ≡ true → lives t q ≡ true
@@ -78,7 +72,7 @@ lives-where {t} s q h stands =
 
 -- both, of a half that stands in the stack
 pub half_exists : {t : Tables} {q : ℕ} {h : HalfId} → StandsIn q h t → IsSome (pair_at t h.pair)
-half_exists {t} {q} {h} here = pair-stands q h (pair_at t h.pair) here.stands
+half_exists {t} {q} {h} here = pair_stands q h (pair_at t h.pair) here.stands
 
 pub stack_lives : {t : Tables} {q : ℕ} {h : HalfId} → StandsIn q h t → lives t q ≡ true
 stack_lives {t} {q} {h} here = lives-where here.sound q h here.stands
@@ -91,7 +85,7 @@ module _ {t : Tables} (s : IsSound t) (q : ℕ) (h : HalfId) (stands : stands_at
   scene = scene_of t q
 
   pub there : pair_at t h.pair ≡ Some (pair_of t.pairs h.pair)
-  there = some-of (pair_at t h.pair) (new_pair 0 0) (pair-stands q h (pair_at t h.pair) stands)
+  there = some-of (pair_at t h.pair) (new_pair 0 0) (pair_stands q h (pair_at t h.pair) stands)
 
   stands_here : half.at ≡ q
   stands_here = eqb-true half.at q (ap (stands_at q h.side) (sym there) ∙ stands)
@@ -142,8 +136,18 @@ module _ {t : Tables} (s : IsSound t) (q : ℕ) (h : HalfId) (stands : stands_at
     unfolding enqueued
     replaces_put new free here others numbers =
         let can = sends half.up full free in
+        let less = leb-false SENT_MAX (length half.sent) can.1 in
+        let longer : length (half.sent ++ frame ∷ []) ≡ length half.sent + 1 = length-append half.sent (frame ∷ []) in
         replaces_as (on_link half_id_eq h (with_frame frame) scene) (sent half_id_eq h frame scene)
         (ap (λ b. cond b (lost Full 1 scene) (enqueued half_id_eq h frame scene)) (sym can.1)
         ∙ ap (λ b. cond (not b) (lost Link 1 scene) (cond full (lost Full 1 scene) (enqueued half_id_eq h frame scene))) (sym can.0) ∙ sym sent_as)
-        (replaces_half new (record half { sent = half.sent ++ frame ∷ [] }) here others numbers (with_frame frame) refl (still_short frame half.sent can.1)
+        (replaces_half new (record half { sent = half.sent ++ frame ∷ [] }) here others numbers (with_frame frame) refl (le-leb (length (half.sent ++ frame ∷ [])) SENT_MAX (omega (arith, less, longer)))
         (ap (λ b. cond b (link_with h half) (record (link_with h half) { sent = half.sent ++ frame ∷ [] })) (sym can.1)))
+
+-- a half sent a frame with its own hardware address
+pub sent_own : {t u : Tables} {q : ℕ} {h : HalfId} → StandsIn q h t → (frame_from : Mac → List ℕ) (mac : Mac) → mac ≡ (half_of t.pairs h).mac
+    → (frame : List ℕ) → frame ≡ frame_from mac → Replaces q (sent half_id_eq h frame (scene_of t q)) t u
+    → Replaces q (sent half_id_eq h (frame_from (link_of half_id_eq h (scene_of t q)).mac) (scene_of t q)) t u
+sent_own {t} {u} {q} {h} here frame_from mac own frame is =
+    let seen = own ∙ ap (λ (l : LinkOf HalfId). l.mac) (sym (link_is here.sound q h here.stands)) in
+    subst (λ (f : List ℕ). Replaces q (sent half_id_eq h f (scene_of t q)) t u) (is ∙ ap frame_from seen)

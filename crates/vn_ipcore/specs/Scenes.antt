@@ -94,6 +94,13 @@ pub record StandsIn (sid : ℕ) (half : HalfId) (t : Tables) : Type 0 where
   -- its end of the pair is there
   pub stands : stands_at sid half.side (pair_at t half.pair) ≡ true
 
+-- a half can send so many frames
+pub record CanSend (n sid : ℕ) (half : HalfId) (t : Tables) : Type 0 where
+  -- it stands in the stack
+  pub here : StandsIn sid half t
+  -- each counter can count as many more
+  pub room : HasRoomFor n t sid
+
 -- an ARP packet can come to a half
 pub record IsReady (sid : ℕ) (half : HalfId) (now : ℕ) (t : Tables) : Type 0 where
   -- the half stands in the stack

@@ -6,10 +6,11 @@ ghost use Rattle.vn_rules.specs.LinkCommands.{down_rule};
 ghost use Rattle.vn_packets.specs.AddressLinks.{all_announced, up_rule};
 ghost use Rattle.vn_vmove.specs.Parts.{pair_at, parts};
 ghost use Rattle.vn_vmove.specs.Sound.{IsSound, stands_at};
-ghost use Rattle.vn_ipcore.specs.Scenes.{HasRoom, HasRoomFor, Replaces, StandsIn, scene_of};
+ghost use Rattle.vn_ipcore.specs.Scenes.{CanSend, HasRoom, Replaces, StandsIn, scene_of};
 ghost use Rattle.vn_ipcore.specs.Announcing.{announced_of};
 
-use crate::announcing::tell;
+use crate::announcing::announcement;
+use crate::sending::send_frame;
 use std::alloc::Global;
 use vn_inaddr::Addr;
 use vn_types::{HalfId, If, NoMemory, Sid, same_interface};
@@ -17,6 +18,7 @@ use vn_vmove::Tables;
 
 /// Sets a half that stands in the stack up (ifconfig(8), `up`). Where it was down, its addresses are
 /// announced in their order.
+#[tactic(auto, using(crate::proofs::Sent::pair_stands))]
 pub fn come_up(alloc: Global, tables: &mut Tables, sid: Sid, half: HalfId) -> Result<(), NoMemory>
     requires sound { IsSound tables.old }
     requires stands { stands_at sid.0 half.side (pair_at tables.old half.pair) ≡ true }
@@ -33,6 +35,7 @@ pub fn come_up(alloc: Global, tables: &mut Tables, sid: Sid, half: HalfId) -> Re
 }
 
 /// Sets a half that stands in the stack down (ifconfig(8), `down`). Queues and tables stay.
+#[tactic(auto, using(crate::proofs::Sent::pair_stands))]
 pub fn go_down(tables: &mut Tables, sid: Sid, half: HalfId)
     requires sound { IsSound tables.old }
     requires stands { stands_at sid.0 half.side (pair_at tables.old half.pair) ≡ true }
@@ -59,6 +62,7 @@ fn announce_all(alloc: Global, tables: &mut Tables, sid: Sid, half: HalfId) -> R
 }
 
 /// Announces an address of the stack, if it is one of the half.
+#[tactic(auto, using(crate::proofs::Sent::half_exists))]
 fn announce_own(
     alloc: Global,
     tables: &mut Tables,
@@ -66,13 +70,14 @@ fn announce_own(
     half: HalfId,
     addr: Addr,
 ) -> Result<(), NoMemory>
-    requires here { StandsIn sid.0 half tables.old }
-    requires room { HasRoomFor 1 tables.old sid.0 }
+    requires { CanSend 1 sid.0 half tables.old }
     ensures { OnOk result (Replaces sid.0
         (announced_of half addr (scene_of tables.old sid.0)) tables.old tables.new) }
 {
     if !same_interface(addr.on, If::Half(half)) {
         return Ok(());
     }
-    tell(alloc, tables, sid, half, addr.ip)
+    let frame = announcement(alloc, tables.pairs.mac(half), addr.ip)?;
+    send_frame(tables, sid, half, frame);
+    Ok(())
 }

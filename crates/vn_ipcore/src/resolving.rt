@@ -1,10 +1,11 @@
-ghost use Rattle.std.specs.Prelude.{◌≡◌, false, length, Ok, OnOk};
+ghost use Rattle.std.specs.Prelude.{◌≡◌, false, length, IfOk, OnOk};
 ghost use Rattle.vn_types.specs.Interfaces.{half_id_eq};
-ghost use Rattle.vn_packets.specs.ArpPackets.{arp_heard, arp_read, arp_received, is_stranger as is_stranger_to, mac_of, reply, sent_arp, sent_datagrams};
+ghost use Rattle.vn_packets.specs.ArpPackets.{arp_frame, arp_heard, arp_received, is_stranger as is_stranger_to, reply, sent_datagrams};
 ghost use Rattle.vn_vmove.specs.Parts.{parts};
-ghost use Rattle.vn_ipcore.specs.Scenes.{HasRoomFor, IsReady, Replaces, StandsIn, scene_of};
+ghost use Rattle.vn_ipcore.specs.Scenes.{CanSend, IsReady, Replaces, scene_of};
 
-use crate::sending::{send_arp, send_datagram};
+use crate::sending::{frame_of_arp, send_datagram, send_frame};
+use bytes::Bytes;
 use std::alloc::Global;
 use vn_arp::Packets;
 use vn_link::ArpPacket;
@@ -13,7 +14,8 @@ use vn_vmove::{Tables, Tally};
 
 const REPLY: u16 = 2;
 
-/// An ARP packet comes to a half that stands in the stack (RFC 826, "Packet Reception").
+/// An ARP packet comes to a half that stands in the stack (RFC 826, "Packet Reception"). It counts for nothing
+/// where its sender does.
 #[tactic(auto, using(crate::proofs::Sent::stack_lives))]
 pub fn input_arp(
     alloc: Global,
@@ -28,33 +30,14 @@ pub fn input_arp(
         (arp_received half_id_eq (record { clock = now }) half octets.now (scene_of tables.old sid.0)) tables.old tables.new) }
 {
     match ArpPacket::read(octets) {
-        Ok(packet) => heed(alloc, tables, sid, half, packet, now),
-        Err(_) => {
+        Ok(packet) if !is_stranger(tables, sid, half, packet.spa) => {
+            hear(alloc, tables, sid, half, packet, now)
+        }
+        _ => {
             tables.tallies.count(sid, Tally::Arp, 1);
             Ok(())
         }
     }
-}
-
-/// A packet counts for nothing where its sender does.
-#[tactic(auto, using(crate::proofs::Sent::stack_lives))]
-fn heed(
-    alloc: Global,
-    tables: &mut Tables,
-    sid: Sid,
-    half: HalfId,
-    packet: ArpPacket,
-    now: u64,
-) -> Result<(), NoMemory>
-    requires { IsReady sid.0 half now tables.old }
-    ensures { OnOk result (Replaces sid.0
-        (arp_read half_id_eq (record { clock = now }) half (Ok packet) (scene_of tables.old sid.0)) tables.old tables.new) }
-{
-    if is_stranger(tables, sid, half, packet.spa) {
-        tables.tallies.count(sid, Tally::Arp, 1);
-        return Ok(());
-    }
-    hear(alloc, tables, sid, half, packet, now)
 }
 
 /// Whether the sender of a packet counts for nothing.
@@ -87,7 +70,9 @@ fn hear(
     if !reply {
         return Ok(());
     }
-    send_reply(alloc, tables, sid, half, packet)
+    let frame = reply_frame(alloc, tables.pairs.mac(half), packet)?;
+    send_frame(tables, sid, half, frame);
+    Ok(())
 }
 
 /// A half that stands in the stack sends datagrams to a station, one after another.
@@ -99,8 +84,7 @@ fn send_all(
     to: Mac,
     packets: Packets,
 ) -> Result<(), NoMemory>
-    requires here { StandsIn sid.0 half tables.old }
-    requires room { HasRoomFor (length packets) tables.old sid.0 }
+    requires { CanSend (length packets) sid.0 half tables.old }
     ensures { OnOk result (Replaces sid.0
         (sent_datagrams half_id_eq half to packets (scene_of tables.old sid.0)) tables.old tables.new) }
 {
@@ -111,27 +95,16 @@ fn send_all(
     Ok(())
 }
 
-/// A half that stands in the stack replies to a request for its address.
-#[tactic(auto, using(crate::proofs::Sent::half_exists))]
-fn send_reply(
-    alloc: Global,
-    tables: &mut Tables,
-    sid: Sid,
-    half: HalfId,
-    packet: ArpPacket,
-) -> Result<(), NoMemory>
-    requires here { StandsIn sid.0 half tables.old }
-    requires room { HasRoomFor 1 tables.old sid.0 }
-    ensures { OnOk result (Replaces sid.0 (sent_arp half_id_eq half packet.sha
-        (reply (mac_of half_id_eq half (scene_of tables.old sid.0)) packet) (scene_of tables.old sid.0))
-        tables.old tables.new) }
+/// The frame by which a half of that hardware address replies to a request.
+fn reply_frame(alloc: Global, mac: Mac, packet: ArpPacket) -> Result<Bytes, NoMemory>
+    ensures { IfOk result (λ frame. frame ≡ arp_frame packet.sha (reply mac packet)) }
 {
     let answer = ArpPacket {
         op: REPLY,
-        sha: tables.pairs.mac(half),
+        sha: mac,
         spa: packet.tpa,
         tha: packet.sha,
         tpa: packet.spa,
     };
-    send_arp(alloc, tables, sid, half, packet.sha, answer)
+    frame_of_arp(alloc, packet.sha, answer)
 }

@@ -1,9 +1,9 @@
-ghost use Rattle.std.specs.Prelude.{◌≡◌, ◌⊎◌, IfOk, OnErr, OnOk};
+ghost use Rattle.std.specs.Prelude.{◌≡◌, ◌⊎◌, IfOk, OnOk};
 ghost use Rattle.vn_types.specs.Interfaces.{half_id_eq};
-ghost use Rattle.vn_packets.specs.ArpPackets.{reply_op, request_op, sent_arp, sent_datagram};
+ghost use Rattle.vn_packets.specs.ArpPackets.{arp_frame, reply_op, request_op, sent_datagram};
 ghost use Rattle.vn_packets.specs.Datagrams.{frame_with};
 ghost use Rattle.vn_packets.specs.Links.{sent};
-ghost use Rattle.vn_ipcore.specs.Scenes.{HasRoomFor, Replaces, StandsIn, scene_of};
+ghost use Rattle.vn_ipcore.specs.Scenes.{CanSend, Replaces, scene_of};
 
 use bytes::Bytes;
 use std::alloc::Global;
@@ -23,27 +23,14 @@ const ARP: u16 = 0x0806;
 /// The type of a frame with a datagram.
 const IP4: u16 = 0x0800;
 
-/// A half that stands in the stack sends an ARP packet to a station.
-pub(crate) fn send_arp(
-    alloc: Global,
-    tables: &mut Tables,
-    sid: Sid,
-    half: HalfId,
-    to: Mac,
-    packet: ArpPacket,
-) -> Result<(), NoMemory>
-    requires here { StandsIn sid.0 half tables.old }
-    requires room { HasRoomFor 1 tables.old sid.0 }
-    requires op { (packet.op ≡ request_op) ⊎ (packet.op ≡ reply_op) }
-    ensures sent { OnOk result (Replaces sid.0
-        (sent_arp half_id_eq half to packet (scene_of tables.old sid.0)) tables.old tables.new) }
-    ensures no_memory { OnErr result (tables.new ≡ tables.old) }
+/// The frame of an ARP packet to a station, from the hardware address that the packet tells.
+pub(crate) fn frame_of_arp(alloc: Global, to: Mac, packet: ArpPacket) -> Result<Bytes, NoMemory>
+    requires { (packet.op ≡ request_op) ⊎ (packet.op ≡ reply_op) }
+    ensures { IfOk result (λ frame. frame ≡ arp_frame to packet) }
 {
     let mut octets = [0; ARP_PACKET];
     packet.write(&mut octets);
-    let frame = frame_of(alloc, to, packet.sha, ARP, &octets)?;
-    send_frame(tables, sid, half, frame);
-    Ok(())
+    frame_of(alloc, to, packet.sha, ARP, &octets)
 }
 
 /// A half that stands in the stack sends a datagram to a station.
@@ -56,8 +43,7 @@ pub(crate) fn send_datagram(
     to: Mac,
     datagram: &[u8],
 ) -> Result<(), NoMemory>
-    requires here { StandsIn sid.0 half tables.old }
-    requires room { HasRoomFor 1 tables.old sid.0 }
+    requires { CanSend 1 sid.0 half tables.old }
     ensures { OnOk result (Replaces sid.0
         (sent_datagram half_id_eq half to datagram.now (scene_of tables.old sid.0)) tables.old tables.new) }
 {
@@ -83,9 +69,8 @@ fn frame_of(alloc: Global, to: Mac, from: Mac, kind: u16, payload: &[u8]) -> Res
 /// A half that stands in the stack sends a frame. It is lost where the half is down, and then where the
 /// queue is full.
 #[tactic(auto, using(crate::proofs::Sent::half_exists, crate::proofs::Sent::stack_lives))]
-fn send_frame(tables: &mut Tables, sid: Sid, half: HalfId, frame: Bytes)
-    requires here { StandsIn sid.0 half tables.old }
-    requires room { HasRoomFor 1 tables.old sid.0 }
+pub(crate) fn send_frame(tables: &mut Tables, sid: Sid, half: HalfId, frame: Bytes)
+    requires { CanSend 1 sid.0 half tables.old }
     ensures { Replaces sid.0 (sent half_id_eq half frame (scene_of tables.old sid.0)) tables.old tables.new }
 {
     if !tables.pairs.is_up(half) {

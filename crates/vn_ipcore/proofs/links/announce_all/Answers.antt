@@ -8,12 +8,11 @@ use Rattle.vn_ipcore.proofs.links.announce_all.Goals as goal
 pub loop-addr-init : goal.loop-addr-init
 loop-addr-init c = at_first c.requires.here.sound c.args.sid.0 c.args.half
 
-pub announce_own-requires-clause-here : goal.announce_own-requires-clause-here
-announce_own-requires-clause-here c = still_there c.loop-addr.invariant.replaces c.requires.here
-
-pub announce_own-requires-clause-room : goal.announce_own-requires-clause-room
-announce_own-requires-clause-room c =
-    still_room c.loop-addr.invariant c.requires.counters (few_places c.requires.here.sound c.loop-addr.invariant c.in-Some.addr (sym c.in-Some.ensures.at))
+pub announce_own-requires : goal.announce_own-requires
+announce_own-requires c = record {
+  here = still_there c.loop-addr.invariant.replaces c.requires.here;
+  room = still_room c.loop-addr.invariant c.requires.counters (few_places c.requires.here.sound c.loop-addr.invariant c.in-Some.addr (sym c.in-Some.ensures.at));
+}
 
 pub overflow_add-place : goal.overflow_add-place
 overflow_add-place c =

@@ -3,17 +3,9 @@ use Rattle.vn_types.specs.declared.interface.IfOf.TheVariants.{Half}
 use Rattle.vn_types.specs.Interfaces.{half_id_eq}
 use Rattle.vn_arp.proofs.Edits.{for_ok}
 use Rattle.vn_packets.specs.AddressLinks.{up_rule}
-use Rattle.vn_vmove.specs.Parts.{pair_at}
 use Rattle.vn_ipcore.specs.Scenes.{Replaces, scene_of}
-use Rattle.vn_ipcore.proofs.Sent.{pair-stands}
 use Rattle.vn_ipcore.proofs.Up.{replaces_by_same, replaces_by_up, set_there}
 use Rattle.vn_ipcore.proofs.links.come_up.Goals as goal
-
-pub is_up-was_up-requires : goal.is_up-was_up-requires
-is_up-was_up-requires c = pair-stands c.args.sid.0 c.args.half (pair_at c.args.tables.now c.args.half.pair) c.requires.stands
-
-pub set_up-requires : goal.set_up-requires
-set_up-requires c = pair-stands c.args.sid.0 c.args.half (pair_at c.args.tables.now c.args.half.pair) c.requires.stands
 
 pub announce_all-requires-clause-here : goal.announce_all-requires-clause-here
 announce_all-requires-clause-here c =

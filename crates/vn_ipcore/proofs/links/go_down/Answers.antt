@@ -1,11 +1,6 @@
 use Rattle.std.proofs.Common.{false, refl}
-use Rattle.vn_vmove.specs.Parts.{pair_at}
-use Rattle.vn_ipcore.proofs.Sent.{pair-stands}
 use Rattle.vn_ipcore.proofs.Up.{replaces_by_down}
 use Rattle.vn_ipcore.proofs.links.go_down.Goals as goal
-
-pub set_up-requires : goal.set_up-requires
-set_up-requires c = pair-stands c.args.sid.0 c.args.half (pair_at c.args.tables.now c.args.half.pair) c.requires.stands
 
 pub returns : goal.returns
 returns c =

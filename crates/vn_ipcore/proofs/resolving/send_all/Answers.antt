@@ -9,11 +9,11 @@ use Rattle.vn_ipcore.proofs.resolving.send_all.Goals as goal
 pub loop-datagram-init : goal.loop-datagram-init
 loop-datagram-init c = sending_first c.requires.here.sound c.args.sid.0 c.args.half c.args.to c.args.packets c.requires.room
 
-pub send_datagram-requires-clause-here : goal.send_datagram-requires-clause-here
-send_datagram-requires-clause-here c = still_there c.loop-datagram.invariant.replaces c.requires.here
-
-pub send_datagram-requires-clause-room : goal.send_datagram-requires-clause-room
-send_datagram-requires-clause-room c = sending_room c.loop-datagram.invariant c.in-Some.datagram (sym c.in-Some.ensures.first)
+pub send_datagram-requires : goal.send_datagram-requires
+send_datagram-requires c = record {
+  here = still_there c.loop-datagram.invariant.replaces c.requires.here;
+  room = sending_room c.loop-datagram.invariant c.in-Some.datagram (sym c.in-Some.ensures.first);
+}
 
 pub loop-datagram-preserved-in_ok-send_datagram : goal.loop-datagram-preserved-in_ok-send_datagram
 loop-datagram-preserved-in_ok-send_datagram c =
