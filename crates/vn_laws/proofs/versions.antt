@@ -4,3 +4,4 @@ pub mod Kept
 pub mod SameReaders
 pub mod Lines
 pub mod Snapshots
+pub mod Counting

@@ -6,5 +6,6 @@ pub mod WorkedRows
 pub mod WorkedReaders
 pub mod PairSets
 pub mod Versions
+pub mod Counting
 pub mod Growth
 pub mod Sleep

@@ -14,7 +14,9 @@ mod soundness;
 pub use isolation::{law_of_isolation, law_of_local_rules, law_of_whole_projection};
 pub use locality::law_of_locality;
 pub use reaching::law_of_pairs;
-pub use readers::{law_of_kept_versions, law_of_reader_lines, law_of_unread_histories};
+pub use readers::{
+    law_of_counted_versions, law_of_kept_versions, law_of_reader_lines, law_of_unread_histories,
+};
 pub use removal::{law_of_lowest_unit, law_of_removal};
 pub use rows::{
     law_of_closed_rows, law_of_worked_pairs, law_of_worked_readers, law_of_worked_rows,

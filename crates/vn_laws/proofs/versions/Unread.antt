@@ -28,7 +28,7 @@ unfolding step is_command
 unread-step w (event.Cmd lane issuer command) built u = λ q. (readers-commanded lane issuer command w).of q ∙ u q
 unread-step w _ built u = cc
 
-unread-opening : Unread opening
+pub unread-opening : Unread opening
 unread-opening q = ap (λ (s : Stack). s.readers) (opening_stack q) ∙ by (is_host q)
   where
     by : (b : Bool) → (if b then construct 0 None no_stack else no_stack).readers ≡ []
