@@ -1,15 +1,13 @@
-ghost use Rattle.std.specs.Prelude.{◌≡◌, ◌++◌, ◌∷◌, codes, decimal, OnOk, OnErr};
+ghost use Rattle.std.specs.Prelude.{◌≡◌, ◌++◌, OnOk, OnErr};
 ghost use Rattle.std.specs.Io.{StartsWith};
 ghost use Rattle.std.specs.List.{flat_map};
-ghost use Rattle.vn_types.specs.InterfaceWords.{ifname_text};
-ghost use Rattle.vn_types.specs.Octets.{space};
-ghost use Rattle.vn_cells.specs.machine.Listings.{address_part, ether_part, if_line, up_text};
 ghost use Rattle.vn_text.specs.Watches.{listed_line, listed_text, moment_text, watch_text, watches_text};
 
 use crate::history::put_lane_event;
-use crate::put::{put, put_number, put_prefix};
+use crate::listing::put_if_row;
+use crate::put::{put, put_number};
 use vn_cells::{IfRow, Watch};
-use vn_types::{IfName, Ip4, List, Mac, NoMemory, restore, write_ifname, write_mac};
+use vn_types::{List, NoMemory, restore};
 
 /// Puts watches at the end of the output below their heading, and nothing where there is none.
 pub fn write_watches(watches: &[Watch], out: &mut Vec<u8>) -> Result<(), NoMemory>
@@ -87,69 +85,6 @@ fn put_row(row: &IfRow, out: &mut Vec<u8>) -> Result<(), NoMemory>
     ensures front { StartsWith out.new.items out.old.items }
 {
     put(b"| ", out)?;
-    put_interface(row, out)?;
+    put_if_row(row, out)?;
     put(b"\n", out)
-}
-
-/// An interface (ifconfig(8), `-a`).
-#[tactic(auto, unfolding(vn_cells::specs::machine::Listings::if_line))]
-fn put_interface(row: &IfRow, out: &mut Vec<u8>) -> Result<(), NoMemory>
-    ensures put { OnOk result (out.new.items ≡ out.old.items ++ if_line row.now) }
-    ensures front { StartsWith out.new.items out.old.items }
-{
-    put_link(row.name, row.up, row.mtu, out)?;
-    put_ether(row.mac, out)?;
-    put_addresses(row.addrs.as_slice(), out)
-}
-
-/// The name of an interface, whether it is up, and the most octets of a datagram on it.
-fn put_link(name: IfName, up: bool, mtu: u16, out: &mut Vec<u8>) -> Result<(), NoMemory>
-    ensures put { OnOk result (out.new.items
-        ≡ out.old.items ++ ifname_text name ++ space ∷ up_text up ++ codes " mtu " ++ decimal mtu) }
-    ensures front { StartsWith out.new.items out.old.items }
-{
-    write_ifname(name, out)?;
-    put(up_word(up), out)?;
-    put(b" mtu ", out)?;
-    put_number(u64::from(mtu), out)
-}
-
-fn up_word(up: bool) -> &'static [u8]
-    ensures { result.now ≡ space ∷ up_text up }
-{
-    if up {
-        return b" up";
-    }
-    b" down"
-}
-
-/// A half's hardware address.
-fn put_ether(mac: Option<Mac>, out: &mut Vec<u8>) -> Result<(), NoMemory>
-    ensures put { OnOk result (out.new.items ≡ out.old.items ++ ether_part mac) }
-    ensures front { StartsWith out.new.items out.old.items }
-{
-    let Some(mac) = mac else {
-        return Ok(());
-    };
-    put(b" ether ", out)?;
-    write_mac(mac, out)
-}
-
-fn put_addresses(addresses: &[(Ip4, u8)], out: &mut Vec<u8>) -> Result<(), NoMemory>
-    ensures put { OnOk result (out.new.items
-        ≡ out.old.items ++ flat_map address_part addresses.now) }
-    ensures front { StartsWith out.new.items out.old.items }
-{
-    for address in addresses {
-        put_address(*address, out)?;
-    }
-    Ok(())
-}
-
-fn put_address(address: (Ip4, u8), out: &mut Vec<u8>) -> Result<(), NoMemory>
-    ensures put { OnOk result (out.new.items ≡ out.old.items ++ address_part address) }
-    ensures front { StartsWith out.new.items out.old.items }
-{
-    put(b" ", out)?;
-    put_prefix(address.0, address.1, out)
 }
