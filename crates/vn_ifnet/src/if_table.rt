@@ -1,12 +1,13 @@
-ghost use Rattle.std.specs.Prelude.{◌≡◌, ◌≢◌, ℕ, List, Some, None, OnOk, OnErr, IfOk, length, slice_get};
+ghost use Rattle.std.specs.Prelude.{◌≡◌, ◌≢◌, ℕ, List, [], Some, None, OnOk, OnErr, IfOk, MatchOption, length, slice_get};
 ghost use Rattle.std.specs.Option.{is_some, option_map};
 ghost use Rattle.vn_types.specs.declared.interface.IfName.{IfName as Spelt};
 ghost use Rattle.vn_types.specs.PerStack.{ChangesOnly};
 ghost use Rattle.vn_ifnet.specs.declared.interfaces.Attached.{Attached as Entry};
 ghost use Rattle.vn_ifnet.specs.Stacks.{Held, is_taken, named, nothing, of, reserved_by, with_last, without};
 
-use crate::interfaces::Interfaces;
+use crate::interfaces::{Attached, Interfaces};
 use std::alloc::Global;
+use std::collections::btree_map::Values;
 use std::marker::Model;
 use vn_types::{HalfId, If, IfName, NoMemory, PerStack, Sid, Standing};
 
@@ -115,6 +116,18 @@ impl IfTable {
             (slice_get (of self.now sid.0).attached place) }
     {
         self.stacks.at(sid)?.at(place)
+    }
+
+    /// The interfaces of a stack under their names, in order of attachment: none only where nothing is attached.
+    pub fn attached(&self, sid: Sid) -> Option<Values<'_, u64, Attached>>
+        ensures { MatchOption result
+            ((of self.now sid.0).attached ≡ [])
+            (λ values. values ≡ (of self.now sid.0).attached) }
+    {
+        match self.stacks.at(sid) {
+            Some(interfaces) => Some(interfaces.attached()),
+            None => None,
+        }
     }
 }
 

@@ -13,6 +13,7 @@ ghost use Rattle.vn_ifnet.specs.Stacks.{is_another, named, nothing, reserved_by,
 
 use std::alloc::Global;
 use std::collections::BTreeMap;
+use std::collections::btree_map::Values;
 use std::marker::Model;
 use vn_types::{Empty, HalfId, If, IfName, NoMemory, Side, same_half};
 
@@ -84,7 +85,8 @@ fn name_number(name: IfName) -> u64
     }
 }
 
-fn if_number(what: If) -> u64
+/// The number by which an interface is looked up. No two have one.
+pub fn if_number(what: If) -> u64
     ensures { result ≡ if_number what }
 {
     match what {
@@ -221,6 +223,12 @@ impl Interfaces {
         ensures { result ≡ length self.now.attached }
     {
         self.attached.len() as u64
+    }
+
+    pub(crate) fn attached(&self) -> Values<'_, u64, Attached>
+        ensures { result ≡ self.now.attached }
+    {
+        self.attached.values()
     }
 
     pub(crate) fn at(&self, place: u64) -> Option<If>

@@ -6,4 +6,4 @@ mod if_table;
 mod interfaces;
 
 pub use if_table::IfTable;
-pub use interfaces::Attached;
+pub use interfaces::{Attached, if_number};
