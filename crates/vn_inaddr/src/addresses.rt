@@ -109,4 +109,10 @@ impl Addresses {
     {
         self.items.get(place as usize).copied()
     }
+
+    pub(crate) fn list(&self) -> &[Addr]
+        ensures { result.now ≡ self.now }
+    {
+        self.items.as_slice()
+    }
 }

@@ -131,4 +131,14 @@ impl Addrs {
     {
         self.stacks.at(sid)?.at(place)
     }
+
+    /// The addresses of a stack, in order of adding.
+    pub fn list(&self, sid: Sid) -> &[Addr]
+        ensures { result.now ≡ of self.now sid.0 }
+    {
+        match self.stacks.at(sid) {
+            Some(addresses) => addresses.list(),
+            None => &[],
+        }
+    }
 }
