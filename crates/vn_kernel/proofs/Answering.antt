@@ -26,7 +26,7 @@ module _ (f : Fields) (rule : Rule World) where
 
   -- and all else
   pub answered-refused : Stands f → (e : Errno) → first_refusal rule.refusals ≡ Some e → Answered (answer (world_of f) rule) (Refused e) f f
-  answered-refused s e is = answered-left f e is (record { world = refl; stands = s; grows = grows_not f })
+  answered-refused s e is = answered-left f e is (record { world = refl; stands = s; grows = grows_not f; read = refl })
 
   -- what is not becomes what the rule says
   pub answered-done : (g : Fields) (given : Outcome) → first_refusal rule.refusals ≡ None → given ≡ rule.otherwise.outcome → Leaves rule.otherwise.left f g → Answered (answer (world_of f) rule) given f g

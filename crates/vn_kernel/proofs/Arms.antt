@@ -34,6 +34,7 @@ use Rattle.vn_cells.specs.machine.Events.{is_built_command, is_named_path, is_va
 use Rattle.vn_cells.specs.machine.Reach.{MakesPair, Near, reach}
 use Rattle.vn_cells.specs.machine.Step.{entered}
 use Rattle.vn_cells.specs.world.World.{common_of}
+use Rattle.vn_laws.proofs.edits.Paths.{append-not_host}
 use Rattle.vn_kernel.specs.Fields.{Fields}
 use Rattle.vn_kernel.specs.Naming.{name_of}
 use Rattle.vn_kernel.specs.Stands.{Answered, AnsweredBy, HasStack, Ran, Stands}
@@ -56,11 +57,6 @@ path_in (command.Vnet name path) = Some path
 path_in (command.VnetBack name path) = Some path
 path_in _ = None
 
-labelled : (issuer path : Path) → is_host path ≡ false → is_host (issuer ++ path) ≡ false
-unfolding is_host
-labelled [] path label = label
-labelled (l ∷ issuer) path label = refl
-
 module _ (issuer path : Path) where
   named : (c : Command) → path_in c ≡ Some path → IsTrue (is_valid_command issuer c) → is_named_path issuer path ≡ true
   unfolding is_valid_command
@@ -81,7 +77,7 @@ module _ (issuer path : Path) where
 
     -- and then it is not host's
     pub names_jail : (jail : Path) → jail ≡ issuer ++ path → is_host jail ≡ false
-    names_jail jail at = ap is_host at ∙ labelled issuer path (not-true (is_host path) (and_parts (is_path path) (not (is_host path)) parts.0).1)
+    names_jail jail at = ap is_host at ∙ append-not_host issuer path (not-true (is_host path) (and_parts (is_path path) (not (is_host path)) parts.0).1)
 
 -- ---- commands
 
@@ -101,6 +97,7 @@ module _ {f g : Fields} {given : Outcome} {sid : ℕ} (h : HasStack sid f) (issu
     entered = λ lane. (λ i. entered f.clock lane issuer c (record { left = (a.leaves.world ∙ ap (λ (x : Answer World). x.left) same) i; outcome = (a.outcome ∙ ap (λ (x : Answer World). x.outcome) same) i })) ∙ r.entered lane;
     stands = a.leaves.stands;
     grows = a.leaves.grows;
+    read = a.leaves.read;
   }
     where
       same : answer (world_of f) rule ≡ refused e (world_of f)

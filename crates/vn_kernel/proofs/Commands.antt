@@ -1,5 +1,5 @@
 -- What a command is answered, and its entry, together as the machine's step.
-use Rattle.std.proofs.Common.{◌≡◌, ℕ, ◌+◌, ◌≤◌, Bool, true, false, length, map, not, IsTrue, List, [], ◌∷◌, Some, None, refl, sym, ap, ap₂, ◌∙◌, subst}
+use Rattle.std.proofs.Common.{◌≡◌, ℕ, ◌+◌, ◌≤◌, Bool, true, false, length, map, not, IsTrue, List, [], ◌∷◌, Some, None, refl, sym, ap, ap₂, ◌∙◌, subst, arith}
 use Rattle.std.specs.Prelude.{if◌then◌else◌}
 use Rattle.std.proofs.lemmas.Bool.{and_parts, false≢true}
 use Rattle.vn_types.specs.Paths.{Path, above, parent}
@@ -29,6 +29,7 @@ use Rattle.vn_cells.specs.machine.Reach.{Near, Reach, reach}
 use Rattle.vn_cells.specs.machine.Step.{commanded, entered, ran_by, step}
 use Rattle.vn_kernel.specs.Construction.{Constructs}
 use Rattle.vn_kernel.specs.Fields.{Fields}
+use Rattle.vn_kernel.specs.Reading.{Turns}
 use Rattle.vn_kernel.specs.Stands.{Answered, Leaves, Ran, Stands, Stepped}
 use Rattle.vn_kernel.specs.Worlds.{logged, with_entry, world_of}
 use Rattle.vn_kernel.proofs.Answering.{answered-done, answered-refused, grows_not}
@@ -90,6 +91,7 @@ dead f issuer command s gone = record {
   entered = λ lane. sym (ap (λ b. if b then ran_by lane issuer command (reach issuer command) (world_of f) else entered f.clock lane issuer command (refused errno.NoEnt (world_of f))) (alive-is f s issuer ∙ gone));
   stands = s;
   grows = grows_not f;
+  read = refl;
 }
 
 far : (r : Reach) (lane : ℕ) (issuer : Path) (command : Command) (w : World) → (r ≡ Near → ⊥) → ran_by lane issuer command r w ≡ entered w.clock lane issuer command (answer w (far_rule (common_of w) issuer r w))
@@ -108,6 +110,7 @@ reached f g issuer command given s alive beyond a = record {
       ∙ sym (ap (λ b. if b then ran_by lane issuer command (reach issuer command) (world_of f) else entered f.clock lane issuer command (refused errno.NoEnt (world_of f))) (alive-is f s issuer ∙ alive));
   stands = a.leaves.stands;
   grows = a.leaves.grows;
+  read = a.leaves.read;
 }
 
 -- the outcome is noted
@@ -119,6 +122,7 @@ noted f g clock lane issuer command copy given now same ran after is =
       world = world-entry g ran.stands issuer (record { clock = f.clock; what = what.Cmd lane command given }) ∙ ran.entered lane;
       stands = stands-entry g ran.stands issuer (record { clock = f.clock; what = what.Cmd lane command given });
       grows = record { jails = ran.grows.jails; pairs = ran.grows.pairs };
+      read = ran.read;
     })
 
 -- ---- an event
@@ -138,4 +142,19 @@ only_commands _ other built = false≢true built
 
 pub step_of : (f g : Fields) (e : Event) (lane : ℕ) (path : Path) (command : Command) → e ≡ event.Cmd lane path command → Leaves (commanded lane path command (world_of f)) f g → Stepped e f g
 unfolding step
-step_of f g e lane path command is leaves = subst (λ e. Stepped e f g) (sym is) leaves
+step_of f g e lane path command is leaves = subst (λ e. Stepped e f g) (sym is) (record {
+  world = leaves.world;
+  stands = leaves.stands;
+  grows = leaves.grows;
+})
+
+-- a reader's event
+pub turn_of : (f g : Fields) (e turn : Event) → e ≡ turn → Turns turn f g → Stepped e f g
+turn_of f g e turn is t = subst (λ e. Stepped e f g) (sym is) (record {
+  world = t.world;
+  stands = t.stands;
+  grows = record {
+    jails = omega (arith, ap (λ (x : Fields). length x.jails) t.others);
+    pairs = omega (arith, ap (λ (x : Fields). length x.tables.pairs) t.others);
+  };
+})

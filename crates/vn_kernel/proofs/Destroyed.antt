@@ -1,5 +1,5 @@
 -- Destructors enter themselves in a transcript, one after another.
-use Rattle.std.proofs.Common.{◌≡◌, ℕ, ◌+◌, ◌<◌, ◌≤◌, List, [], ◌∷◌, drop, reverse, length, get_or, drop-cons, add-one, refl, sym, ap, ◌∙◌, subst, arith}
+use Rattle.std.proofs.Common.{◌≡◌, ℕ, ◌+◌, ◌<◌, ◌≤◌, List, [], ◌∷◌, drop, reverse, length, get_or, drop-cons, add-one, refl, sym, ap, ◌∙◌}
 use Rattle.std.proofs.lemmas.List.{drop_all}
 use Rattle.vn_types.specs.Paths.{Path}
 use Rattle.vn_cells.specs.declared.world.World.{World}

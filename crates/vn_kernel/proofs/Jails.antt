@@ -2,23 +2,27 @@
 use Rattle.std.proofs.Common.{◌≡◌, ◌≢◌, ◌⊎◌, ℕ, ◌+◌, ◌<◌, ◌≤◌, ◌==◌, Bool, true, false, List, [], ◌∷◌, ◌++◌, length, length-append, map, Option, Some, None, inl, inr, refl, sym, ap, ◌∙◌, arith, ⊎_elim}
 use Rattle.std.specs.Prelude.{if◌then◌else◌}
 use Rattle.std.specs.List.{list_any}
-use Rattle.std.proofs.lemmas.Bool.{cases_eq, cases_lt, cases_order, eq-eqb, ne_eqb, false≢true, false_from_ne_true}
+use Rattle.std.proofs.lemmas.Bool.{cases_eq, cases_lt, eq-eqb, ne_eqb, false≢true}
 use Rattle.std.proofs.lemmas.List.{get_or-map, get_or_past, get_or_append_left, get_or_push, length-map}
 use Rattle.vn_types.specs.Paths.{Path, above, is_host, parent, path_eq}
-use Rattle.vn_types.specs.PathOrder.{path_eq-Decides}
 use Rattle.vn_jail.specs.declared.jail.Jail.{Jail}
 use Rattle.vn_jail.specs.Kept.{IsLinked}
 use Rattle.vn_jail.specs.Tree.{at, changed, created, dead_jail, is_alive, is_at, is_known, known, number_of, path_at, recount, start}
-use Rattle.vn_jail.proofs.Changes.{alive-at, alive-here, alive-stays, changed-at, changed-other, long, none, path-stays}
+use Rattle.vn_jail.proofs.Changes.{alive-at, alive-here, alive-stays, changed-at, changed-other, none}
 use Rattle.vn_jail.proofs.Known.{Numbered, numbered-either}
-use Rattle.vn_jail.proofs.Numbers.{is-known, number-is, number-known}
+use Rattle.vn_jail.proofs.Numbers.{alive-known, is-known, number-is, number-known}
 use Rattle.vn_cells.specs.declared.world.Children.{Children}
 use Rattle.vn_cells.specs.commands.Jails.{counted_by, one_more}
 use Rattle.vn_kernel.specs.Worlds.{children_at}
 
-host-is : is_host [] ≡ true
+-- a path other than host's has a label
+pub labelled : (q : Path) → is_host q ≡ false → q ≢ []
 unfolding is_host
-host-is = refl
+labelled q label e = false≢true (sym label ∙ ap is_host e)
+
+-- a living path has a number, which is its own
+pub alive-numbered : (jails : List Jail) (q : Path) → is_alive q jails ≡ true → (number_of q jails < length jails) × (path_at jails (number_of q jails) ≡ q)
+alive-numbered jails q alive = number-known jails q (alive-known jails q alive)
 
 -- a part that a map keeps in each jail
 mapped-at : {A : Type 0} (h : Jail → Jail) (part : Jail → A) → ((j : Jail) → part (h j) ≡ part j) → (jails : List Jail) (n : ℕ) → part (at (map h jails) n) ≡ part (at jails n)
@@ -161,10 +165,7 @@ module _ (jails : List Jail) (linked : IsLinked jails) (p : Path) (label : is_ho
     own-jail = ap (λ js. at js (number_of p jails)) as-changed ∙ changed-at (start limit) (λ n. n + 1) (λ j. (refl, refl)) (known p jails) middle-linked (number_of p jails) numbered.within
 
     not-first : number_of p jails ≢ 0
-    not-first e = host-apart p label (sym numbered.path ∙ ap (path_at (known p jails)) e ∙ middle-linked.host)
-      where
-        host-apart : (q : Path) → is_host q ≡ false → q ≡ [] → ⊥
-        host-apart q h e = false≢true (sym h ∙ ap is_host e ∙ host-is)
+    not-first e = labelled p label (sym numbered.path ∙ ap (path_at (known p jails)) e ∙ middle-linked.host)
 
     pub created-children : children_at (created p limit jails) (number_of p jails) ≡ Some (record { limit = limit; living = 0 })
     created-children =

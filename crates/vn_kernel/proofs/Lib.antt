@@ -1,8 +1,14 @@
 pub mod Names
 pub mod Views
+pub mod Lanes
+pub mod ReaderRules
+pub mod ReaderSteps
+pub mod ReaderEvents
 pub mod Jails
 pub mod Refusals
+pub mod Others
 pub mod Created
+pub mod Rebuilt
 pub mod Constructed
 pub mod Registering
 pub mod Entered

@@ -21,7 +21,7 @@ use Rattle.vn_rules.specs.Timers.{Timed}
 use Rattle.vn_rules.proofs.Kept.{IsIn, all_in}
 use Rattle.vn_rules.proofs.Named.{NamesPass, names_from, own_names}
 use Rattle.vn_rules.proofs.NamedHalves.{renamed-agree}
-use Rattle.vn_rules.proofs.SoundFacts.{facts_from_sound}
+use Rattle.vn_rules.proofs.SoundFacts.{SoundFacts, facts_from_sound}
 use Rattle.vn_ifnet.specs.declared.interfaces.Attached.{Attached}
 use Rattle.vn_vmove.specs.declared.tables.Tables.{Tables}
 use Rattle.vn_vmove.specs.Parts.{held, lives, pair_at, parts}
@@ -86,21 +86,22 @@ module _ {t : Tables} (s : IsSound t) (q : ℕ) where
       by false e c owned here more = more owned
 
   module _ (sound : is_sound_parts half_id_eq (parts t q) ≡ true) where
+    facts : SoundFacts half_id_eq (times_arp half_id_eq) (parts t q)
+    facts = facts_from_sound half_id_eq (times_arp half_id_eq) (parts t q) sound
+
+    -- what is named is listed
+    named : NamesPass (is_among half_id_eq (parts t q).interfaces) (parts t q)
+    named = own_names half_id_eq (times_arp half_id_eq) (parts t q) facts
+
     named-stand : list_all if_stands (named_ifs (parts t q)) ≡ true
     named-stand = all_in (is_among half_id_eq (parts t q).interfaces) if_stands (named_ifs (parts t q)) (λ on in_list. listed-stands on)
         (names_from (is_among half_id_eq (parts t q).interfaces) (parts t q) named)
-      where
-        named : NamesPass (is_among half_id_eq (parts t q).interfaces) (parts t q)
-        named = own_names half_id_eq (times_arp half_id_eq) (parts t q) (facts_from_sound half_id_eq (times_arp half_id_eq) (parts t q) sound)
 
     timed-stand : list_all (λ (e : Timed HalfId). option_map_or stands (timer_half e.1) true) (parts t q).timers.standing ≡ true
     unfolding owns_timers
     timed-stand = all_in (has_owner half_id_eq (parts t q)) (λ (e : Timed HalfId). option_map_or stands (timer_half e.1) true) (parts t q).timers.standing
-        (λ e in_list. by e) (facts_from_sound half_id_eq (times_arp half_id_eq) (parts t q) sound).owned
+        (λ e in_list. by e) facts.owned
       where
-        named : NamesPass (is_among half_id_eq (parts t q).interfaces) (parts t q)
-        named = own_names half_id_eq (times_arp half_id_eq) (parts t q) (facts_from_sound half_id_eq (times_arp half_id_eq) (parts t q) sound)
-
         entries : list_all (λ (a : ArpEntryOf HalfId). stands a.half) (parts t q).arp ≡ true
         entries = all_in (λ (a : ArpEntryOf HalfId). is_among half_id_eq (parts t q).interfaces (Half a.half)) (λ (a : ArpEntryOf HalfId). stands a.half) (parts t q).arp
             (λ a in_list. listed-stands (Half a.half)) named.arp

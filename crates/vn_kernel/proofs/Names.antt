@@ -1,5 +1,5 @@
 -- What halves and pairs are called, where each path keeps its number.
-use Rattle.std.proofs.Common.{◌≡◌, ℕ, ◌<◌, ◌^◌, List, [], length, true, Option, Some, None, IfSome, refl, sym, ap, ◌∙◌, subst}
+use Rattle.std.proofs.Common.{◌≡◌, ℕ, ◌<◌, ◌^◌, List, length, true, Option, Some, None, IfSome, refl, sym, ap, ◌∙◌, subst}
 use Rattle.std.specs.Prelude.{is_some, unwrap_or}
 use Rattle.std.specs.List.{AllByRecursion}
 use Rattle.std.specs.List.Sorted.{IsStrictlySortedBy}
@@ -11,16 +11,14 @@ use Rattle.vn_types.specs.Entries.{find}
 use Rattle.vn_types.specs.Paths.{Path, Key, path_cmp, key_cmp}
 use Rattle.vn_epair.specs.Halves.{End, Pair}
 use Rattle.vn_epair.specs.Pairs.{new_pair}
-use Rattle.vn_jail.specs.declared.jail.Jail.{Jail}
 use Rattle.vn_jail.specs.Kept.{IsLinked, IsTree}
 use Rattle.vn_jail.specs.Tree.{at, is_known, path_at}
 use Rattle.vn_jail.proofs.Numbers.{within}
-use Rattle.vn_vmove.specs.declared.tables.Tables.{Tables}
 use Rattle.vn_vmove.specs.Parts.{lives, pair_at}
 use Rattle.vn_vmove.specs.Sound.{IsSound}
 use Rattle.vn_kernel.specs.Fields.{Fields}
 use Rattle.vn_kernel.specs.Naming.{half_by, key_by, key_in, name_of}
-use Rattle.vn_kernel.specs.Stands.{Stands}
+use Rattle.vn_kernel.specs.Stands.{AreRead, Stands}
 use Rattle.vn_kernel.specs.Worlds.{end_by, pair_by, pair_of}
 
 module _ (f g : Fields) (s : Stands f) (paths : (n : ℕ) → n < length f.jails → path_at g.jails n ≡ path_at f.jails n) where
@@ -70,14 +68,15 @@ module _ (f g : Fields) (s : Stands f) (paths : (n : ℕ) → n < length f.jails
 
     -- the rest is owed of what is another
     pub stands-same : g.units ≡ f.units → IsLinked g.jails → IsTree g.jails → ((n : ℕ) → lives g.tables n ≡ (at g.jails n).alive) → IsSound g.tables
-        → ((p : Path) → is_known p g.jails ≡ true → is_some (find path_cmp p g.logs) ≡ true) → IsStrictlySortedBy path_cmp (keys_of g.logs) → Stands g
-    stands-same units linked tree living sound listed rise = record {
+        → ((p : Path) → is_known p g.jails ≡ true → is_some (find path_cmp p g.logs) ≡ true) → IsStrictlySortedBy path_cmp (keys_of g.logs) → AreRead g.logs g.readers → Stands g
+    stands-same units linked tree living sound listed rise read = record {
       linked = linked;
       tree = tree;
       living = living;
       sound = sound;
       listed = listed;
       logs_rise = rise;
+      read = read;
       keyed = λ n. subst (λ o. IfSome o (λ k. find key_cmp k g.units ≡ Some n)) (sym (key-same n)) (subst (λ us. IfSome (key_in f n) (λ k. find key_cmp k us ≡ Some n)) (sym units) (s.keyed n));
       paired = subst (λ (us : List (Key × ℕ)). AllByRecursion (λ (e : Key × ℕ). key_in g e.1 ≡ Some e.0) us) (sym units)
           (subst (λ (names : ℕ → Option Key). AllByRecursion (λ (e : Key × ℕ). names e.1 ≡ Some e.0) f.units) (λ i n. sym (key-same n) i) s.paired);

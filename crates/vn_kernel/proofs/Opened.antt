@@ -1,5 +1,5 @@
 -- Host alone, just constructed: the machine's opening world.
-use Rattle.std.proofs.Common.{◌≡◌, ◌<◌, ◌≤◌, ◌+◌, ◌==◌, ◌^◌, ℕ, zero, suc, Bool, true, false, ◌&&◌, ◌||◌, List, [], ◌∷◌, ◌++◌, length, map, Some, None, IfSome, refl, sym, ap, ◌∙◌, subst, arith}
+use Rattle.std.proofs.Common.{◌≡◌, ◌<◌, ◌+◌, ◌^◌, ℕ, zero, suc, Bool, true, false, ◌&&◌, ◌||◌, List, [], ◌∷◌, length, map, Some, None, IfSome, refl, sym, ap, ◌∙◌, subst, arith}
 use Rattle.std.specs.Prelude.{if◌then◌else◌, is_some}
 use Rattle.std.specs.Option.{option_map}
 use Rattle.std.specs.List.Sorted.{IsStrictlySortedBy}
@@ -22,6 +22,7 @@ use Rattle.vn_kernel.specs.Fields.{Fields}
 use Rattle.vn_kernel.specs.Naming.{key_by, key_in}
 use Rattle.vn_kernel.specs.Stands.{IsOpen, Stands}
 use Rattle.vn_kernel.specs.Worlds.{children_at, logged, world_of}
+use Rattle.vn_kernel.specs.Readers.{OpenReader}
 use Rattle.vn_kernel.proofs.Created.{constructed-stack}
 use Rattle.vn_kernel.proofs.Views.{own-listed}
 
@@ -50,7 +51,7 @@ first-put entries = refl
 module _ (t u : Tables) (none : (q : ℕ) → lives t q ≡ false) (unpaired : t.pairs ≡ []) (c : Constructs 0 t u)
     (linked : IsLinked (host_jail ∷ [])) (tree : IsTree (host_jail ∷ [])) where
   abbrev begun : Fields
-  begun = record { clock = 0; jails = host_jail ∷ []; logs = ([], map (init_entry 0) rows) ∷ []; units = []; tables = u }
+  begun = record { clock = 0; jails = host_jail ∷ []; logs = ([], map (init_entry 0) rows) ∷ []; readers = []; retired = 0; units = []; tables = u }
 
   no-pairs : u.pairs ≡ []
   no-pairs = c.pairs ∙ unpaired
@@ -59,7 +60,7 @@ module _ (t u : Tables) (none : (q : ℕ) → lives t q ≡ false) (unpaired : t
   no-pair n = ap (λ rows. of rows n) no-pairs
 
   opened-world : world_of begun ≡ opening
-  unfolding world_of each
+  unfolding world_of each find
   opened-world i = record {
     clock = 0;
     stacks = ([], constructed-stack begun [] 0 None [] None host-alive (ap (children_at (host_jail ∷ [])) host-number) (ap (parts u) host-number ∙ c.here) i) ∷ [];
@@ -71,7 +72,7 @@ module _ (t u : Tables) (none : (q : ℕ) → lives t q ≡ false) (unpaired : t
   living (suc n) = c.living (suc n) ∙ ap (λ b. if b then true else lives t (suc n)) (ne_eqb (suc n) 0 (λ e. omega arith)) ∙ none (suc n)
 
   opened-stands : Stands begun
-  unfolding IsStrictlySortedBy key_in
+  unfolding IsStrictlySortedBy key_in find
   opened-stands = record {
     linked = linked;
     tree = tree;
@@ -79,6 +80,7 @@ module _ (t u : Tables) (none : (q : ℕ) → lives t q ≡ false) (unpaired : t
     sound = c.sound;
     listed = λ p known. ap (λ q. is_some (find path_cmp q (([], map (init_entry 0) rows) ∷ []))) (only-host p known) ∙ ap (λ logs. is_some (find path_cmp [] logs)) (sym (first-put (map (init_entry 0) rows))) ∙ own-listed [] (map (init_entry 0) rows) [];
     logs_rise = (tt, tt);
+    read = record { listed = λ p none. refl; rise = tt };
     keyed = λ n. subst (λ o. IfSome (option_map (key_by (host_jail ∷ [])) o) (λ k. find key_cmp k [] ≡ Some n)) (sym (no-pair n)) tt;
     paired = tt;
     units_rise = tt;
@@ -93,9 +95,9 @@ module _ (t u : Tables) (none : (q : ℕ) → lives t q ≡ false) (unpaired : t
   }
 
   -- the same of fields that are these
-  pub opened-as : (jails : List Jail) (logs before : List (Path × List Entry)) (host : Path) (units : List (Key × ℕ)) → jails ≡ host_jail ∷ []
-      → logs ≡ logged host (map (init_entry 0) rows) before → host ≡ [] → before ≡ [] → units ≡ []
-      → IsOpen (record { clock = 0; jails = jails; logs = logs; units = units; tables = u })
-  opened-as jails logs before host units jailed noted at none unpaired =
+  pub opened-as : (jails : List Jail) (logs before : List (Path × List Entry)) (host : Path) (readers : List (Path × List OpenReader)) (units : List (Key × ℕ)) → jails ≡ host_jail ∷ []
+      → logs ≡ logged host (map (init_entry 0) rows) before → host ≡ [] → before ≡ [] → readers ≡ [] → units ≡ []
+      → IsOpen (record { clock = 0; jails = jails; logs = logs; readers = readers; retired = 0; units = units; tables = u })
+  opened-as jails logs before host readers units jailed noted at none unread unpaired =
       let logs_so : logs ≡ ([], map (init_entry 0) rows) ∷ [] = noted ∙ (λ i. logged (at i) (map (init_entry 0) rows) (none i)) ∙ first-put (map (init_entry 0) rows) in
-      subst IsOpen (λ i. record { clock = 0; jails = sym jailed i; logs = sym logs_so i; units = sym unpaired i; tables = u }) opened
+      subst IsOpen (λ i. record { clock = 0; jails = sym jailed i; logs = sym logs_so i; readers = sym unread i; retired = 0; units = sym unpaired i; tables = u }) opened

@@ -1,8 +1,8 @@
 -- Why a jail is not made: the same over the jails and in the world.
-use Rattle.std.proofs.Common.{◌≡◌, ◌≢◌, ℕ, ◌<◌, ◌==◌, Bool, true, false, ◌&&◌, ◌||◌, not, List, [], ◌∷◌, length, Option, Some, None, refl, sym, ap, ap₂, ◌∙◌}
-use Rattle.std.specs.Prelude.{if◌then◌else◌, nat_le}
+use Rattle.std.proofs.Common.{◌≡◌, ◌≢◌, ℕ, Bool, true, false, ◌&&◌, ◌||◌, not, List, [], ◌∷◌, Some, None, refl, sym, ap, ap₂, ◌∙◌}
+use Rattle.std.specs.Prelude.{if◌then◌else◌}
 use Rattle.std.specs.List.{list_any}
-use Rattle.std.proofs.lemmas.Bool.{and_parts, cases_eq, false≢true, ne_eqb, or_left, or_right, true≢false}
+use Rattle.std.proofs.lemmas.Bool.{and_parts, false≢true, ne_eqb, or_left, or_right}
 use Rattle.vn_types.specs.Paths.{Path, above, from, is_host, is_under, parent, path_eq}
 use Rattle.vn_types.specs.PathOrder.{path_eq-Decides}
 use Rattle.vn_types.specs.Refusals.{first_refusal}
@@ -10,25 +10,21 @@ use Rattle.vn_types.specs.declared.errno.Errno.TheVariants as errno
 use Rattle.vn_types.proofs.Ancestors.{above-from, any-above, passes-above}
 use Rattle.vn_types.proofs.UnderPaths.{under-refl}
 use Rattle.vn_rules.specs.Rules.{Common}
-use Rattle.vn_jail.specs.declared.jail.Jail.{Jail}
 use Rattle.vn_jail.specs.Tree.{any_full as any_full_of, at, create_refusal, is_alive, is_at, is_full as is_full_of, number_of, path_at}
-use Rattle.vn_jail.proofs.Numbers.{alive-known, number-known, tested}
+use Rattle.vn_jail.proofs.Numbers.{tested}
 use Rattle.vn_cells.specs.commands.Jails.{any_full, creation, has_no_room, is_full}
-use Rattle.vn_cells.specs.world.World.{is_alive as lives_in, stack_at}
+use Rattle.vn_cells.specs.world.World.{stack_at}
 use Rattle.vn_kernel.specs.Fields.{Fields}
 use Rattle.vn_kernel.specs.Stands.{Stands}
-use Rattle.vn_kernel.specs.Worlds.{children_at, live_of, world_of}
+use Rattle.vn_kernel.specs.Worlds.{live_of, world_of}
+use Rattle.vn_kernel.proofs.Jails.{alive-numbered, labelled}
 use Rattle.vn_kernel.proofs.Views.{alive-is, live-here}
-
-labelled : (q : Path) → is_host q ≡ false → q ≢ []
-unfolding is_host
-labelled q h e = true≢false (sym (ap is_host e) ∙ h)
 
 module _ (f : Fields) (s : Stands f) where
   -- a living path but host is not numbered 0
   not-first : (q : Path) → is_alive q f.jails ≡ true → is_host q ≡ false → number_of q f.jails ≢ 0
   not-first q alive label e =
-      labelled q label (sym (number-known f.jails q (alive-known f.jails q alive)).1 ∙ ap (path_at f.jails) e ∙ s.linked.host)
+      labelled q label (sym (alive-numbered f.jails q alive).1 ∙ ap (path_at f.jails) e ∙ s.linked.host)
 
   -- whether a living jail is full
   full-is : (q : Path) → is_alive q f.jails ≡ true → is_host q ≡ false
@@ -38,10 +34,7 @@ module _ (f : Fields) (s : Stands f) where
       ∙ ap (λ b. is_full (if b then Some (live_of f (number_of q f.jails)) else None)) alive
       ∙ ap (λ b. has_no_room (if b then None else Some (record { limit = (at f.jails (number_of q f.jails)).limit; living = (at f.jails (number_of q f.jails)).living })))
       (ne_eqb (number_of q f.jails) 0 (not-first q alive label))
-      ∙ sym (tested f.jails s.linked q is_full_of (number_of q f.jails) known.0 known.1)
-    where
-      known : (number_of q f.jails < length f.jails) × (path_at f.jails (number_of q f.jails) ≡ q)
-      known = number-known f.jails q (alive-known f.jails q alive)
+      ∙ (let known = alive-numbered f.jails q alive in sym (tested f.jails s.linked q is_full_of (number_of q f.jails) known.0 known.1))
 
   -- and one of some living jails
   full-any : (ps : List Path) → ((q : Path) → list_any (path_eq q) ps ≡ true → (is_alive q f.jails ≡ true) × (is_host q ≡ false))

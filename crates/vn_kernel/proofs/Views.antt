@@ -1,5 +1,5 @@
 -- What the world has of a path, and of an entry more.
-use Rattle.std.proofs.Common.{◌≡◌, ◌≢◌, ℕ, ◌≤◌, ◌+◌, Bool, true, false, List, [], ◌∷◌, ◌++◌, length, Option, Some, None, refl, sym, ap, ◌∙◌, arith}
+use Rattle.std.proofs.Common.{◌≡◌, Bool, true, false, List, [], ◌∷◌, ◌++◌, map, Option, Some, None, refl, sym, ap, ◌∙◌}
 use Rattle.std.specs.Prelude.{if◌then◌else◌, is_some, unwrap_or}
 use Rattle.std.specs.List.Sorted.{IsStrictlySortedBy}
 use Rattle.std.specs.BTreeMap.{insert_entry, is_at}
@@ -10,15 +10,16 @@ use Rattle.vn_types.specs.Entries.{find, put, each}
 use Rattle.vn_types.specs.Paths.{Path, path_cmp, path_eq}
 use Rattle.vn_types.specs.PathOrder.{path_cmp-exact, path_eq-Decides, path_ties, path_total}
 use Rattle.vn_types.proofs.EntryLaws.{each-put, find-each, find-put, set_value-insert_entry, sorted-put}
-use Rattle.vn_jail.specs.Tree.{is_alive, is_known, number_of}
+use Rattle.vn_jail.specs.Tree.{is_alive, number_of}
 use Rattle.vn_jail.proofs.Numbers.{alive-known}
 use Rattle.vn_cells.specs.declared.transcript.Entry.{Entry}
 use Rattle.vn_cells.specs.declared.world.Stack.{Stack}
 use Rattle.vn_cells.specs.world.World.{edit_stack, is_alive as lives_in, no_stack, noting, stack_at}
 use Rattle.vn_kernel.specs.Fields.{Fields}
 use Rattle.vn_kernel.specs.Naming.{name_of}
-use Rattle.vn_kernel.specs.Stands.{Stands}
-use Rattle.vn_kernel.specs.Worlds.{live_of, logged, pair_of, stack_of, with_entry, world_of}
+use Rattle.vn_kernel.specs.Stands.{AreRead, Stands}
+use Rattle.vn_kernel.specs.Worlds.{live_of, logged, pair_of, readers_of, stack_of, with_entry, world_of}
+use Rattle.vn_kernel.specs.Readers.{OpenReader, reader_by}
 use Rattle.vn_kernel.proofs.Names.{stands-same}
 
 -- ---- transcripts
@@ -46,6 +47,17 @@ module _ (p : Path) (es : List Entry) (logs : List (Path × List Entry)) where
   pub own-listed : is_some (find path_cmp p (logged p es logs)) ≡ true
   own-listed = listed-logged p ∙ ap (λ b. if b then true else is_some (find path_cmp p logs)) ((path_eq-Decides p p).1 refl)
 
+  -- and what is read is
+  pub logged-read : (readers : List (Path × List OpenReader)) → AreRead logs readers → AreRead (logged p es logs) readers
+  logged-read readers read = record {
+    listed = λ q none. read.listed q (by (path_eq q p) (is_some (find path_cmp q logs)) (sym (listed-logged q) ∙ none));
+    rise = read.rise;
+  }
+    where
+      by : (b c : Bool) → (if b then true else c) ≡ false → c ≡ false
+      by true c e = cc
+      by false c e = e
+
   pub logged-rises : IsStrictlySortedBy path_cmp (keys_of logs) → IsStrictlySortedBy path_cmp (keys_of (logged p es logs))
   unfolding logged
   logged-rises rise = sorted-put path_cmp path_total p (unwrap_or (find path_cmp p logs) [] ++ es) logs rise
@@ -66,13 +78,13 @@ logged-absent p es logs now path new same at none is =
 
 -- ---- the stack of a path
 
-pub stack-dead : (f : Fields) (p : Path) (es : List Entry) → is_alive p f.jails ≡ false → stack_of f p es ≡ record { entries = es; readers = []; live = None }
+pub stack-dead : (f : Fields) (p : Path) (es : List Entry) → is_alive p f.jails ≡ false → stack_of f p es ≡ record { entries = es; readers = readers_of f p; live = None }
 unfolding stack_of
-stack-dead f p es dead i = record { entries = es; readers = []; live = if dead i then Some (live_of f (number_of p f.jails)) else None }
+stack-dead f p es dead i = record { entries = es; readers = readers_of f p; live = if dead i then Some (live_of f (number_of p f.jails)) else None }
 
-pub stack-live : (f : Fields) (p : Path) (es : List Entry) → is_alive p f.jails ≡ true → stack_of f p es ≡ record { entries = es; readers = []; live = Some (live_of f (number_of p f.jails)) }
+pub stack-live : (f : Fields) (p : Path) (es : List Entry) → is_alive p f.jails ≡ true → stack_of f p es ≡ record { entries = es; readers = readers_of f p; live = Some (live_of f (number_of p f.jails)) }
 unfolding stack_of
-stack-live f p es alive i = record { entries = es; readers = []; live = if alive i then Some (live_of f (number_of p f.jails)) else None }
+stack-live f p es alive i = record { entries = es; readers = readers_of f p; live = if alive i then Some (live_of f (number_of p f.jails)) else None }
 
 module _ (f : Fields) (s : Stands f) where
   unlisted-dead : (p : Path) → is_some (find path_cmp p f.logs) ≡ false → is_alive p f.jails ≡ false
@@ -82,11 +94,12 @@ module _ (f : Fields) (s : Stands f) where
   unfolding stack_at world_of
   stack-here p =
       ap (λ (o : Option Stack). unwrap_or o no_stack) (find-each path_cmp path_eq-Decides path_ties (stack_of f) f.logs p)
-      ∙ by (find path_cmp p f.logs) (unlisted-dead p)
+      ∙ by (find path_cmp p f.logs) (unlisted-dead p) (s.read.listed p)
     where
-      by : (o : Option (List Entry)) → (is_some o ≡ false → is_alive p f.jails ≡ false) → unwrap_or (option_map (stack_of f p) o) no_stack ≡ stack_of f p (unwrap_or o [])
-      by (Some es) dead = refl
-      by None dead = sym (stack-dead f p [] (dead refl))
+      by : (o : Option (List Entry)) → (is_some o ≡ false → is_alive p f.jails ≡ false) → (is_some o ≡ false → find path_cmp p f.readers ≡ None)
+          → unwrap_or (option_map (stack_of f p) o) no_stack ≡ stack_of f p (unwrap_or o [])
+      by (Some es) dead read = refl
+      by None dead read = sym (stack-dead f p [] (dead refl) ∙ (λ i. record { entries = []; readers = map reader_by (unwrap_or (read refl i) []); live = None }))
 
   -- what lives there
   pub live-here : (p : Path) → (stack_at (world_of f) p).live ≡ (if is_alive p f.jails then Some (live_of f (number_of p f.jails)) else None)
@@ -133,4 +146,4 @@ module _ (f : Fields) (s : Stands f) where
     pub stands-entry : Stands (with_entry p entry f)
     stands-entry =
         stands-same f (with_entry p entry f) s (λ n lt. refl) (λ n. refl) refl s.linked s.tree s.living s.sound
-        (λ q known. still-listed p (entry ∷ []) f.logs q (s.listed q known)) (logged-rises p (entry ∷ []) f.logs s.logs_rise)
+        (λ q known. still-listed p (entry ∷ []) f.logs q (s.listed q known)) (logged-rises p (entry ∷ []) f.logs s.logs_rise) (logged-read p (entry ∷ []) f.logs f.readers s.read)

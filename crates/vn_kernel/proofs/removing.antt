@@ -1,3 +1,4 @@
+pub mod Rest
 pub mod Lent
 pub mod Homing
 pub mod Ending
@@ -6,4 +7,6 @@ pub mod Stack
 pub mod Killed
 pub mod Vanished
 pub mod Bury
+pub mod Lists
+pub mod LiveUnder
 pub mod Removed

@@ -1,8 +1,10 @@
 -- What construction makes of the tables.
 use Rattle.std.specs.Prelude.{◌≡◌, ℕ, Bool, true, ◌==◌, nat_lt, List, [], ◌∷◌, take, Some, None, if◌then◌else◌}
+use Rattle.vn_types.specs.declared.interface.HalfId.{HalfId}
 use Rattle.vn_types.specs.declared.interface.IfName.TheVariants as ifname
 use Rattle.vn_types.specs.declared.interface.IfOf.TheVariants.{Lo0}
 use Rattle.vn_types.specs.PerStack.{ChangesOnly}
+use Rattle.vn_rules.specs.declared.parts.PartsOf.{PartsOf}
 use Rattle.vn_rules.specs.Construction.{bare_parts, constructed_parts, constructor_rows, run_up}
 use Rattle.vn_rules.specs.Variables.{declarations, declared_variables}
 use Rattle.vn_ifnet.specs.declared.interfaces.Attached.{Attached}
@@ -12,24 +14,31 @@ use Rattle.vn_route.specs.Stacks.{of as routes_of}
 use Rattle.vn_store.specs.Held.{of as variables_of}
 use Rattle.vn_vmove.specs.declared.tables.Tables.{Tables}
 use Rattle.vn_vmove.specs.Parts.{held, lives, parts}
+use Rattle.vn_vmove.specs.Places.{KeepsNames}
 use Rattle.vn_vmove.specs.Sound.{IsSound}
 use Rattle.vn_vmove.specs.Tallies.{first_counts, of as tallies_of}
 use Rattle.vn_kernel.specs.Constructors.{number_before}
 use Rattle.vn_kernel.specs.declared.constructors.Constructor.{Constructor}
 use Rattle.vn_kernel.specs.declared.constructors.Constructor.TheVariants as constructor
 
--- a stack that did not live has what the constructors leave, and lives
-pub record Constructs (number : ℕ) (old new : Tables) : Type 0 where
+-- a stack gets other tables, and lives or does not
+pub record Rebuilds (alive : Bool) (made : PartsOf HalfId) (number : ℕ) (old new : Tables) : Type 0 where
   -- its tables
-  pub here : parts new number ≡ constructed_parts
+  pub here : parts new number ≡ made
   -- those of each other stack
   pub others : ChangesOnly number (parts old) (parts new)
   -- who lives
-  pub living : (q : ℕ) → lives new q ≡ (if q == number then true else lives old q)
+  pub living : (q : ℕ) → lives new q ≡ (if q == number then alive else lives old q)
   -- the pairs
   pub pairs : new.pairs ≡ old.pairs
+  -- the names that are reserved
+  pub names : KeepsNames old new
   -- what the tables keep together
   pub sound : IsSound new
+
+-- a stack that did not live has what the constructors leave, and lives
+abbrev pub Constructs : ℕ → Tables → Tables → Type 0
+Constructs = Rebuilds true constructed_parts
 
 -- ---- one constructor after another
 
@@ -59,6 +68,17 @@ pub record HaveRun (n number : ℕ) (t : Tables) : Type 0 where
   pub loopback : loopback_of t.loops number
       ≡ (if is_among n constructor.Loif then Some [] else None)
 
+-- tables, with those that constructors write taken from others
+abbrev pub with_built : Tables → Tables → Tables
+with_built new old = record old {
+  tallies = new.tallies;
+  vars = new.vars;
+  ifs = new.ifs;
+  loops = new.loops;
+  addrs = new.addrs;
+  routes = new.routes;
+}
+
 -- constructors ran in a stack: each other stack has what it had, and no other table changed
 pub record BuildsOnly (number : ℕ) (old new : Tables) : Type 0 where
   -- counts
@@ -78,11 +98,4 @@ pub record BuildsOnly (number : ℕ) (old new : Tables) : Type 0 where
   -- routes
   pub routes : ChangesOnly number (routes_of old.routes) (routes_of new.routes)
   -- all other tables
-  pub rest : new ≡ record old {
-    tallies = new.tallies;
-    vars = new.vars;
-    ifs = new.ifs;
-    loops = new.loops;
-    addrs = new.addrs;
-    routes = new.routes;
-  }
+  pub rest : new ≡ with_built new old

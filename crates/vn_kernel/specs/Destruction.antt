@@ -1,34 +1,20 @@
 -- What destruction makes of the tables and of a transcript.
-use Rattle.std.specs.Prelude.{◌≡◌, ℕ, false, ◌==◌, List, [], ◌∷◌, if◌then◌else◌}
+use Rattle.std.specs.Prelude.{ℕ, false, List, [], ◌∷◌}
 use Rattle.vn_types.specs.Paths.{Path}
-use Rattle.vn_types.specs.PerStack.{ChangesOnly}
 use Rattle.vn_rules.specs.Construction.{bare_parts}
 use Rattle.vn_vmove.specs.declared.tables.Tables.{Tables}
-use Rattle.vn_vmove.specs.Parts.{lives, parts}
-use Rattle.vn_vmove.specs.Places.{KeepsNames}
-use Rattle.vn_vmove.specs.Sound.{IsSound}
 use Rattle.vn_cells.specs.declared.transcript.Entry.{Entry}
 use Rattle.vn_cells.specs.declared.transcript.What.TheVariants.{Uninit}
 use Rattle.vn_cells.specs.world.World.{entry_of}
+use Rattle.vn_kernel.specs.Construction.{Rebuilds}
 use Rattle.vn_kernel.specs.Constructors.{constructor_name}
 use Rattle.vn_kernel.specs.declared.constructors.Constructor.{Constructor}
 use Rattle.vn_kernel.specs.Fields.{Fields}
 use Rattle.vn_kernel.specs.Worlds.{with_entry}
 
 -- a stack that lived has what a stack has before construction, and lives no more
-pub record Destructs (number : ℕ) (old new : Tables) : Type 0 where
-  -- its tables
-  pub here : parts new number ≡ bare_parts
-  -- those of each other stack
-  pub others : ChangesOnly number (parts old) (parts new)
-  -- who lives
-  pub living : (q : ℕ) → lives new q ≡ (if q == number then false else lives old q)
-  -- the pairs
-  pub pairs : new.pairs ≡ old.pairs
-  -- the names that are reserved
-  pub names : KeepsNames old new
-  -- what the tables keep together
-  pub sound : IsSound new
+abbrev pub Destructs : ℕ → Tables → Tables → Type 0
+Destructs = Rebuilds false bare_parts
 
 -- ---- entries
 

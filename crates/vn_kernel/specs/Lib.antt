@@ -1,10 +1,13 @@
+pub mod Readers
 pub mod Fields
 pub mod Makings
 pub mod Naming
 pub mod Worlds
 pub mod Stands
+pub mod Reading
 pub mod Constructors
 pub mod Construction
 pub mod Removal
 pub mod Destruction
 pub mod Machines
+pub mod Rows

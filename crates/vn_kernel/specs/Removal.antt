@@ -26,6 +26,20 @@ use Rattle.vn_kernel.specs.Naming.{key_by, name_of}
 use Rattle.vn_kernel.specs.Stands.{Leaves}
 use Rattle.vn_kernel.specs.Worlds.{world_of}
 
+-- ---- what stays
+
+-- no pair gets a number
+abbrev pub GivesNoNumber : Fields → Fields → Type 0
+GivesNoNumber f g = length g.tables.pairs ≡ length f.tables.pairs
+
+-- nothing but the tables is another
+abbrev pub ChangesTables : Fields → Fields → Type 0
+ChangesTables f g = g ≡ record f { tables = g.tables }
+
+-- nothing but the tables and the numbers by home and unit is another
+abbrev pub ChangesPairs : Fields → Fields → Type 0
+ChangesPairs f g = g ≡ record f { units = g.units; tables = g.tables }
+
 -- ---- halves go home
 
 -- the half, if its pair is homed elsewhere
@@ -45,17 +59,17 @@ pub record ComesHome (h : HalfId) (f g : Fields) : Type 0 where
       (moved (name_of f h) (path_at f.jails (half_of f.tables.pairs h).at) (name_of f h).home (world_of f)) f g
   -- by their numbers
   pub tables : Becomes (homeward h (pair_at f.tables h.pair) (net_of f.tables)) f.tables g.tables
-  -- no more than the tables is another
-  pub others : g ≡ record f { tables = g.tables }
+  -- the rest stays
+  pub others : ChangesTables f g
 
 -- the halves that are lent to a stack go home, one after another
 pub record SendsLentHome (q : ℕ) (f g : Fields) : Type 0 where
   -- in the world
   pub leaves : let w = world_of f in let p = path_at f.jails q in Leaves (sent_home p (lent_here w p) w) f g
-  -- no more than the tables is another
-  pub others : g ≡ record f { tables = g.tables }
-  -- no number is given
-  pub numbers : length g.tables.pairs ≡ length f.tables.pairs
+  -- the rest stays
+  pub others : ChangesTables f g
+  -- no pair gets a number
+  pub numbers : GivesNoNumber f g
   -- what stands in the stack is homed there
   pub own : (h : HalfId) → stands_at q h.side (pair_at g.tables h.pair) ≡ true
       → IfSome (pair_at g.tables h.pair) (λ pair. pair.home ≡ q)
@@ -74,23 +88,28 @@ pub record EndsPair (n : ℕ) (f g : Fields) : Type 0 where
   pub pairs : (m : ℕ) → pair_at g.tables m ≡ (if m == n then None else pair_at f.tables m)
   -- its home and unit have no number
   pub units : let k = key_by f.jails (pair_of f.tables.pairs n) in g.units ≡ filter (λ e. not (key_eq e.0 k)) f.units
-  -- no number is given
-  pub numbers : length g.tables.pairs ≡ length f.tables.pairs
-  -- and nothing else is another
-  pub others : g ≡ record f { units = g.units; tables = g.tables }
+  -- no pair gets a number
+  pub numbers : GivesNoNumber f g
+  -- the rest stays
+  pub others : ChangesPairs f g
+
+-- some pairs end, and the others are what they were
+pub record EndsSome (f g : Fields) : Type 0 where
+  -- a pair is what it was, or gone
+  pub fewer : (n : ℕ) → (pair_at g.tables n ≡ pair_at f.tables n) ⊎ (pair_at g.tables n ≡ None)
+  -- no pair gets a number
+  pub numbers : GivesNoNumber f g
+  -- the rest stays
+  pub others : ChangesPairs f g
 
 -- the pairs that are homed in a stack end, lowest unit first
 pub record EndsHomed (q : ℕ) (f g : Fields) : Type 0 where
   -- in the world
   pub leaves : let w = world_of f in let p = path_at f.jails q in Leaves (without_pairs (homed_at w p) w) f g
-  -- a pair is what it was, or gone
-  pub fewer : (n : ℕ) → (pair_at g.tables n ≡ pair_at f.tables n) ⊎ (pair_at g.tables n ≡ None)
-  -- no number is given
-  pub numbers : length g.tables.pairs ≡ length f.tables.pairs
+  -- no other pair changes
+  pub ended : EndsSome f g
   -- none that is left is homed in the stack
   pub none : (n : ℕ) → IfSome (pair_at g.tables n) (λ pair. pair.home ≢ q)
-  -- and nothing else is another
-  pub others : g ≡ record f { units = g.units; tables = g.tables }
 
 -- ---- a stack ends
 
@@ -109,25 +128,26 @@ rows_before_return = take 10 rows
 abbrev pub return_entry : ℕ → Entry
 return_entry clock = entry_of clock (Uninit (codes "vnet_if_return"))
 
+-- the jail of a stack ends
+pub record EndsJail (q : ℕ) (f g : Fields) : Type 0 where
+  -- it lives no more
+  pub jails : g.jails ≡ removed (path_at f.jails q) f.jails
+  -- no pair gets a number
+  pub numbers : GivesNoNumber f g
+  -- no time passes
+  pub clock : g.clock ≡ f.clock
+
 -- a stack in which nothing but lo0 stands is destroyed
 pub record Buries (q : ℕ) (f g : Fields) : Type 0 where
   -- in the world
   pub leaves : let p = path_at f.jails q in
       Leaves (killed p (torn_down f.clock p rows_before_return (world_of f))) f g
-  -- the jail ends
-  pub jails : g.jails ≡ removed (path_at f.jails q) f.jails
-  -- no number is given
-  pub numbers : length g.tables.pairs ≡ length f.tables.pairs
-  -- no time passes
-  pub clock : g.clock ≡ f.clock
+  -- and its jail ends
+  pub ended : EndsJail q f g
 
 -- a stack is destroyed
 pub record EndsStack (q : ℕ) (f g : Fields) : Type 0 where
   -- in the world
   pub leaves : Leaves (destroyed f.clock (path_at f.jails q) (world_of f)) f g
-  -- the jail ends
-  pub jails : g.jails ≡ removed (path_at f.jails q) f.jails
-  -- no number is given
-  pub numbers : length g.tables.pairs ≡ length f.tables.pairs
-  -- no time passes
-  pub clock : g.clock ≡ f.clock
+  -- and its jail ends
+  pub ended : EndsJail q f g

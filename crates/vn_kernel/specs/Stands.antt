@@ -1,5 +1,5 @@
 -- What the kernel keeps true of its tables, and what an event makes of them.
-use Rattle.std.specs.Prelude.{◌≡◌, ℕ, ◌+◌, ◌^◌, ◌<◌, ◌≤◌, true, length, Some, is_some, IfSome}
+use Rattle.std.specs.Prelude.{◌≡◌, ℕ, ◌+◌, ◌^◌, ◌<◌, ◌≤◌, true, false, List, length, Some, None, is_some, IfSome}
 use Rattle.std.specs.List.{AllByRecursion}
 use Rattle.std.specs.List.Sorted.{IsStrictlySortedBy}
 use Rattle.std.specs.Map.{keys_of}
@@ -14,14 +14,23 @@ use Rattle.vn_vmove.specs.Sound.{IsSound}
 use Rattle.vn_ipcore.specs.Scenes.{HasRoom as CanCount}
 use Rattle.vn_cells.specs.declared.command.Command.{Command}
 use Rattle.vn_cells.specs.declared.event.Event.{Event}
+use Rattle.vn_cells.specs.declared.transcript.Entry.{Entry}
 use Rattle.vn_cells.specs.declared.world.World.{World}
 use Rattle.vn_cells.specs.commands.Taken.{units}
 use Rattle.vn_cells.specs.machine.Step.{commanded, entered, opening, step}
 use Rattle.vn_kernel.specs.Fields.{Fields}
 use Rattle.vn_kernel.specs.Naming.{key_in}
 use Rattle.vn_kernel.specs.Worlds.{world_of}
+use Rattle.vn_kernel.specs.Readers.{OpenReader}
 
 -- ---- between events
+
+-- open readers are those of paths that have a transcript
+pub record AreRead (logs : List (Path × List Entry)) (readers : List (Path × List OpenReader)) : Type 0 where
+  -- a path without a transcript has none
+  pub listed : (p : Path) → is_some (find path_cmp p logs) ≡ false → find path_cmp p readers ≡ None
+  -- they stand in the order of their paths
+  pub rise : IsStrictlySortedBy path_cmp (keys_of readers)
 
 -- jails, transcripts, pairs and tables fit together
 pub record Stands (f : Fields) : Type 0 where
@@ -37,6 +46,8 @@ pub record Stands (f : Fields) : Type 0 where
   pub listed : (p : Path) → is_known p f.jails ≡ true → is_some (find path_cmp p f.logs) ≡ true
   -- transcripts stand in the order of their paths
   pub logs_rise : IsStrictlySortedBy path_cmp (keys_of f.logs)
+  -- what is read has one
+  pub read : AreRead f.logs f.readers
   -- each pair is found by its home and unit
   pub keyed : (number : ℕ) → IfSome (key_in f number) (λ k. find key_cmp k f.units ≡ Some number)
   -- and what is found is the number of a pair of that home and unit
@@ -89,6 +100,10 @@ pub record IsOpen (f : Fields) : Type 0 where
 
 -- ---- after an event
 
+-- the readers, and what was retired while one was open
+abbrev pub reading : Fields → List (Path × List OpenReader) × ℕ
+reading f = (f.readers, f.retired)
+
 -- at most one path and one pair got a number
 pub record Grows (f g : Fields) : Type 0 where
   -- paths
@@ -96,7 +111,7 @@ pub record Grows (f g : Fields) : Type 0 where
   -- pairs
   pub pairs : length g.tables.pairs ≤ length f.tables.pairs + 1
 
--- what is kept becomes something that stands for a world
+-- what is kept becomes something that stands for a world, and no reader is opened, read or closed
 pub record Leaves (w : World) (f g : Fields) : Type 0 where
   -- for that one
   pub world : world_of g ≡ w
@@ -104,10 +119,17 @@ pub record Leaves (w : World) (f g : Fields) : Type 0 where
   pub stands : Stands g
   -- numbers
   pub grows : Grows f g
+  -- readers
+  pub read : reading g ≡ reading f
 
 -- an event happened, as the machine does it
-abbrev pub Stepped : Event → Fields → Fields → Type 0
-Stepped event f g = Leaves (step (world_of f) event) f g
+pub record Stepped (event : Event) (f g : Fields) : Type 0 where
+  -- the world
+  pub world : world_of g ≡ step (world_of f) event
+  -- all fits together still
+  pub stands : Stands g
+  -- numbers
+  pub grows : Grows f g
 
 -- a command that reaches beyond its stack was answered, and its entry is still to be written
 pub record Answered (a : Answer World) (given : Outcome) (f g : Fields) : Type 0 where
@@ -129,3 +151,5 @@ pub record Ran (issuer : Path) (command : Command) (given : Outcome) (f g : Fiel
   pub stands : Stands g
   -- numbers
   pub grows : Grows f g
+  -- readers
+  pub read : reading g ≡ reading f

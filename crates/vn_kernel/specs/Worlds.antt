@@ -1,5 +1,5 @@
 -- The world that stacks and pairs with numbers stand for.
-use Rattle.std.specs.Prelude.{ℕ, ◌==◌, List, [], ◌∷◌, ◌++◌, Option, Some, None, unwrap_or, if◌then◌else◌}
+use Rattle.std.specs.Prelude.{ℕ, ◌==◌, List, [], ◌∷◌, ◌++◌, map, Option, Some, None, unwrap_or, if◌then◌else◌}
 use Rattle.vn_types.specs.Paths.{Path, Key, path_cmp}
 use Rattle.vn_types.specs.Entries.{each, find, put}
 use Rattle.vn_rules.specs.Renamed.{renamed}
@@ -14,10 +14,12 @@ use Rattle.vn_cells.specs.declared.world.Children.{Children}
 use Rattle.vn_cells.specs.declared.world.End.{End}
 use Rattle.vn_cells.specs.declared.world.Live.{Live}
 use Rattle.vn_cells.specs.declared.world.Pair.{Pair}
+use Rattle.vn_cells.specs.declared.world.Reader.{Reader}
 use Rattle.vn_cells.specs.declared.world.Stack.{Stack}
 use Rattle.vn_cells.specs.declared.world.World.{World}
 use Rattle.vn_kernel.specs.Fields.{Fields}
 use Rattle.vn_kernel.specs.Naming.{name_of}
+use Rattle.vn_kernel.specs.Readers.{reader_by}
 
 -- ---- stacks
 
@@ -38,9 +40,13 @@ live_of f number = record {
 abbrev pub live_at : Fields → Path → Option Live
 live_at f p = if is_alive p f.jails then Some (live_of f (number_of p f.jails)) else None
 
+-- the open readers of a path
+abbrev pub readers_of : Fields → Path → List Reader
+readers_of f p = map reader_by (unwrap_or (find path_cmp p f.readers) [])
+
 -- the stack of a path, by its transcript
 unfoldable pub stack_of : Fields → Path → List Entry → Stack
-stack_of f p entries = record { entries = entries; readers = []; live = live_at f p }
+stack_of f p entries = record { entries = entries; readers = readers_of f p; live = live_at f p }
 
 -- ---- pairs
 

@@ -1,11 +1,11 @@
 ghost use Rattle.std.specs.Prelude.{◌≡◌, ◌≢◌, ◌<◌, true, drop, get_or, length, reverse, OnOk};
 ghost use Rattle.vn_types.specs.Paths.{Path as Labels, parent};
-ghost use Rattle.vn_jail.specs.Tree.{at, is_alive, path_at};
+ghost use Rattle.vn_jail.specs.Tree.{is_alive, path_at};
 ghost use Rattle.vn_kernel.specs.Constructors.{constructors};
 ghost use Rattle.vn_kernel.specs.Destruction.{uninit_entry, with_destructors};
 ghost use Rattle.vn_kernel.specs.Fields.{fields};
 ghost use Rattle.vn_kernel.specs.Removal.{Buries, IsAlone};
-ghost use Rattle.vn_kernel.specs.Stands.{Stands};
+ghost use Rattle.vn_kernel.specs.Stands.{HasStack};
 ghost use Rattle.vn_kernel.specs.Worlds.{with_entry};
 ghost use Rattle.vn_kernel.specs.declared.constructors.Constructor.TheVariants.{VnetData};
 
@@ -17,8 +17,7 @@ use vn_types::{NoMemory, Path, Sid};
 /// Destroys a living stack in which nothing but lo0 stands and that is the home of no pair: what is left for
 /// its destructors, each with its entry, and the jail lives no more.
 pub(crate) fn bury(state: &mut State, sid: Sid) -> Result<(), NoMemory>
-    requires stands { Stands (fields state.old) }
-    requires alive { (at state.old.jails sid.0).alive ≡ true }
+    requires stack { HasStack sid.0 (fields state.old) }
     requires jail { sid.0 ≢ 0 }
     requires childless { (p : Labels) → is_alive p state.old.jails ≡ true
         → parent p ≢ path_at state.old.jails sid.0 }

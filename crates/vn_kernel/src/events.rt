@@ -5,6 +5,7 @@ ghost use Rattle.vn_kernel.specs.Fields.{fields};
 ghost use Rattle.vn_kernel.specs.Stands.{HasRoom, Leaves, Ran, Stands, Stepped};
 ghost use Rattle.vn_kernel.specs.Worlds.{world_of};
 
+use crate::reading::{read_end, read_next};
 use crate::running::run_living;
 use crate::state::State;
 use vn_cells::{Command, Entry, Event, Outcome, What};
@@ -24,6 +25,8 @@ pub(crate) fn happen(state: &mut State, event: &Event) -> Result<(), NoMemory>
             path,
             command,
         } => run_command(state, *lane, path, command),
+        Event::Next { lane, path } => read_next(state, *lane, path),
+        Event::Close { lane, path } => read_end(state, *lane, path),
         _ => unreachable!(),
     }
 }

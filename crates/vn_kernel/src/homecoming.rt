@@ -1,11 +1,10 @@
-ghost use Rattle.std.specs.Prelude.{◌≡◌, true, IsSome, OnOk, slice_get};
+ghost use Rattle.std.specs.Prelude.{◌≡◌, IsSome, OnOk, slice_get};
 ghost use Rattle.std.specs.Option.{option_and_then};
-ghost use Rattle.vn_jail.specs.Tree.{at};
 ghost use Rattle.vn_vmove.specs.Parts.{pair_at, parts};
 ghost use Rattle.vn_vmove.specs.Sound.{IsSound};
 ghost use Rattle.vn_kernel.specs.Fields.{fields};
 ghost use Rattle.vn_kernel.specs.Removal.{ComesHome, SendsLentHome, lent_half};
-ghost use Rattle.vn_kernel.specs.Stands.{Stands};
+ghost use Rattle.vn_kernel.specs.Stands.{HasStack, Stands};
 
 use crate::state::State;
 use vn_types::{HalfId, If, NoMemory, Sid};
@@ -14,8 +13,7 @@ use vn_vmove::{Tables, send_home};
 /// Sends the halves home that stand in a stack and are homed elsewhere, in the order of its interfaces
 /// (VNET(9), what `vnet_if_return` does as a jail goes).
 pub(crate) fn send_lent_home(state: &mut State, sid: Sid) -> Result<(), NoMemory>
-    requires stands { Stands (fields state.old) }
-    requires alive { (at state.old.jails sid.0).alive ≡ true }
+    requires { HasStack sid.0 (fields state.old) }
     ensures { OnOk result (SendsLentHome sid.0 (fields state.old) (fields state.new)) }
 {
     // A half that leaves makes room for the next one at its place.

@@ -1,18 +1,22 @@
 ghost use Rattle.std.specs.Prelude.{◌≡◌, ◌↔◌, ◌≤◌, ℕ, None, Some, Ok, Err, true, length, is_some, IfOk, OnOk};
+ghost use Rattle.vn_cells.specs.declared.world.World.{World};
 ghost use Rattle.vn_cells.specs.keeping.Clean.{IsEachPrefixClean};
 ghost use Rattle.vn_cells.specs.machine.Events.{IsValidEvent, is_built};
+ghost use Rattle.vn_cells.specs.machine.Local.{lines_left, listing_at};
 ghost use Rattle.vn_cells.specs.texts.Reports.{report_of};
 ghost use Rattle.vn_cells.specs.machine.Step.{run};
 ghost use Rattle.vn_kernel.specs.Machines.{IsLong, opened, spent, stepped};
 ghost use Rattle.vn_kernel.specs.declared.kernel.StepFault.TheVariants.{Long as TooLong, NoMemory as Wanting};
 
 use crate::events::happen;
+use crate::listing::listing;
+use crate::reading::remaining;
 use crate::state::State;
 use std::alloc::Global;
 use std::marker::Model;
-use vn_cells::{EVENTS_MAX, Event, History, Report};
+use vn_cells::{EVENTS_MAX, Event, History, IfRow, Report};
 use vn_laws::{law_of_clean_histories, law_of_unread_histories};
-use vn_types::NoMemory;
+use vn_types::{List, NoMemory, Path};
 
 /// Why an event could not happen.
 #[derive(Drop)]
@@ -94,6 +98,16 @@ impl Kernel {
         Ok(())
     }
 
+    /// How many lines are left to a lane's reader at a path, where it has one.
+    pub fn remaining(&self, lane: u8, path: &Path) -> Option<u64>
+        ensures { (w : World) → self.now.world ≡ Some w → result ≡ lines_left w lane path.now }
+    {
+        if self.spent {
+            return None;
+        }
+        remaining(&self.state, lane, path)
+    }
+
     /// The number of events.
     pub fn events(&self) -> u64
         ensures count { result ≡ length self.now.events }
@@ -107,6 +121,17 @@ impl Kernel {
         ensures { result.now ≡ self.now.events }
     {
         &self.history
+    }
+
+    /// The interfaces at a path, in order of attachment (ifconfig(8), `-a`); none where nothing lives. A spent
+    /// kernel answers want of memory.
+    pub fn listing(&self, path: &Path) -> Result<Option<List<IfRow>>, NoMemory>
+        ensures { IfOk result (λ r. (w : World) → self.now.world ≡ Some w → r ≡ listing_at w path.now) }
+    {
+        if self.spent {
+            return Err(NoMemory);
+        }
+        listing(&self.state, path)
     }
 
     /// Ends the kernel, and gives what the run left. A spent kernel answers want of memory.

@@ -1,12 +1,12 @@
 ghost use Rattle.std.specs.Prelude.{◌≡◌, ◌≢◌, ◌<◌, true, false, IfOk, OnOk, length};
 ghost use Rattle.vn_types.specs.Paths.{Path as Labels, is_host, parent};
 ghost use Rattle.vn_rules.specs.Rules.{answer};
-ghost use Rattle.vn_jail.specs.Tree.{at, is_alive, path_at};
+ghost use Rattle.vn_jail.specs.Tree.{is_alive, path_at};
 ghost use Rattle.vn_cells.specs.commands.Removal.{removal};
 ghost use Rattle.vn_cells.specs.world.World.{common_of};
 ghost use Rattle.vn_kernel.specs.Fields.{fields};
 ghost use Rattle.vn_kernel.specs.Removal.{EndsHomed, EndsStack, homed_numbers, return_entry};
-ghost use Rattle.vn_kernel.specs.Stands.{Answered, Stands};
+ghost use Rattle.vn_kernel.specs.Stands.{Answered, HasStack, Stands};
 ghost use Rattle.vn_kernel.specs.Worlds.{with_entry, world_of};
 
 use crate::burial::{bury, note_destructor};
@@ -36,8 +36,7 @@ pub(crate) fn remove_jail(state: &mut State, jail: &Path) -> Result<Outcome, NoM
 /// Destroys a living stack under which none lives (VNET(9)): its destructors run from the last to the first,
 /// each with its entry.
 fn end_stack(state: &mut State, sid: Sid) -> Result<(), NoMemory>
-    requires stands { Stands (fields state.old) }
-    requires alive { (at state.old.jails sid.0).alive ≡ true }
+    requires stack { HasStack sid.0 (fields state.old) }
     requires jail { sid.0 ≢ 0 }
     requires childless { (p : Labels) → is_alive p state.old.jails ≡ true
         → parent p ≢ path_at state.old.jails sid.0 }
@@ -62,8 +61,7 @@ fn note_return(state: &mut State, sid: Sid) -> Result<(), NoMemory>
 /// Destroys the pairs that are homed in a stack, lowest unit first (VNET(9), what `vnet_cloner` does as a
 /// jail goes).
 pub(crate) fn end_homed(state: &mut State, sid: Sid) -> Result<(), NoMemory>
-    requires stands { Stands (fields state.old) }
-    requires alive { (at state.old.jails sid.0).alive ≡ true }
+    requires { HasStack sid.0 (fields state.old) }
     ensures { OnOk result (EndsHomed sid.0 (fields state.old) (fields state.new)) }
 {
     let pairs = homed_pairs(state, sid)?;

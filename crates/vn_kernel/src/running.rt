@@ -15,6 +15,7 @@ use vn_cells::{Command, Outcome};
 use vn_types::{NoMemory, Path, Sid, join};
 
 /// What a command does in the living stack of its issuer, if it is not refused, and what it is answered.
+#[tactic(auto, using(crate::proofs::Arms::joins, crate::proofs::Arms::names_jail))]
 pub(crate) fn run_living(
     state: &mut State,
     sid: Sid,

@@ -6,6 +6,7 @@ ghost use Rattle.vn_kernel.specs.Worlds.{with_entry, world_of};
 
 use crate::construction::construct;
 use crate::constructors::Constructors;
+use crate::readers::Readers;
 use crate::transcripts::{Transcripts, note, sections_of};
 use std::alloc::Global;
 use std::collections::BTreeMap;
@@ -26,6 +27,10 @@ pub(crate) struct State {
     pub(crate) jails: Jails,
     /// The transcripts. A path that was never constructed may have one.
     pub(crate) logs: Transcripts,
+    /// The open readers. A path that has one has a transcript.
+    pub(crate) readers: Readers,
+    /// How many versions of listings were retired while a reader was open.
+    pub(crate) retired: u64,
     /// The numbers of the pairs that exist, by home and unit.
     pub(crate) units: BTreeMap<(Path, u32), u32>,
     /// What is kept of stacks and pairs, by their numbers.
@@ -42,6 +47,7 @@ impl State {
         let constructors = Constructors::new(alloc)?;
         let tables = Tables::new(alloc)?;
         let logs = BTreeMap::new(alloc);
+        let readers = BTreeMap::new(alloc);
         let units = BTreeMap::new(alloc);
         let mut state = State {
             alloc,
@@ -49,6 +55,8 @@ impl State {
             clock: 0,
             jails,
             logs,
+            readers,
+            retired: 0,
             units,
             tables,
         };
@@ -73,6 +81,8 @@ impl State {
             clock: _,
             jails: _,
             logs,
+            readers: _,
+            retired: _,
             units: _,
             tables: _,
         } = self;

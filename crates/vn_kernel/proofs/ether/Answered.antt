@@ -1,5 +1,5 @@
 -- A half gets another hardware address: what is refused, and what the world becomes.
-use Rattle.std.proofs.Common.{◌≡◌, ℕ, Bool, true, false, ◌||◌, List, [], ◌∷◌, length, Option, Some, None, IfSome, IsSome, unwrap_or, refl, sym, ap, ◌∙◌, subst, arith}
+use Rattle.std.proofs.Common.{◌≡◌, ℕ, Bool, true, false, ◌||◌, List, [], ◌∷◌, length, Option, Some, None, IfSome, unwrap_or, refl, sym, ap, ◌∙◌, subst, arith}
 use Rattle.std.specs.Option.{is_none, option_map}
 use Rattle.vn_types.specs.declared.address.Mac.{Mac}
 use Rattle.vn_types.specs.declared.errno.Errno.{Errno}
@@ -25,24 +25,23 @@ use Rattle.vn_ifnet.specs.Stacks.{named}
 use Rattle.vn_jail.specs.Tree.{is_alive, number_of}
 use Rattle.vn_vmove.specs.declared.tables.Tables.{Tables}
 use Rattle.vn_vmove.specs.Nets.{Becomes, net_of, on_pair}
-use Rattle.vn_vmove.specs.Parts.{held, pair_at, parts}
+use Rattle.vn_vmove.specs.Parts.{held, pair_at}
 use Rattle.vn_vmove.specs.Sound.{IsSound}
 use Rattle.vn_vmove.proofs.Deciding.{pick}
 use Rattle.vn_vmove.proofs.Edits.{kept_of}
-use Rattle.vn_vmove.proofs.Names.{found-stands, stands-pair}
 use Rattle.vn_ipcore.proofs.Linked.{named as called_same, sound_linked}
 use Rattle.vn_cells.specs.world.Names.{key_of}
 use Rattle.vn_cells.specs.world.World.{edit_pair}
 use Rattle.vn_cells.specs.commands.Pairs.{mac_setting, with_mac, with_mac_on}
 use Rattle.vn_cells.specs.commands.Taken.{standing}
 use Rattle.vn_kernel.specs.Fields.{Fields}
-use Rattle.vn_kernel.specs.Naming.{half_by, key_in, name_of}
+use Rattle.vn_kernel.specs.Naming.{name_of}
 use Rattle.vn_kernel.specs.Stands.{Answered, Leaves, Stands}
 use Rattle.vn_kernel.specs.Worlds.{pair_by, world_of}
 use Rattle.vn_kernel.proofs.Answering.{answered-done, answered-refused}
 use Rattle.vn_kernel.proofs.moving.Called.{SameNames, called, names-called, stands-called}
-use Rattle.vn_kernel.proofs.moving.Faithful.{key-is}
-use Rattle.vn_kernel.proofs.moving.Found.{standing-alive}
+use Rattle.vn_kernel.proofs.moving.Faithful.{key-named}
+use Rattle.vn_kernel.proofs.moving.Found.{found-pair, standing-alive}
 use Rattle.vn_kernel.proofs.moving.Nets.{pair-edited, world-becomes, world-net, world_in}
 
 -- another hardware address on a side
@@ -71,11 +70,6 @@ module _ (f : Fields) (s : Stands f) where
     same_names m = kept_of h.pair (Some (with_mac_at h.side mac pair)) (pair_at f.tables) (number_of_pair pairs) is others (option_map called) m
         (λ e. (λ i. Some (called_same (λ home unit. home ≡ pair.home) h.side own pair refl i, called_same (λ home unit. unit ≡ pair.unit) h.side own pair refl i)) ∙ sym (ap (option_map called) was))
 
-    -- its pair is found by its name
-    its_key : key_in f h.pair ≡ Some (key_of (name_of f h))
-    unfolding name_of
-    its_key = key-is f h.pair pair was ∙ sym (ap (λ o. Some (key_of (half_by f.jails h o))) was)
-
     same_pair : (side : Side) → pair_by f.jails (with_mac_at side mac pair) ≡ with_mac side mac (pair_by f.jails pair)
     same_pair A = refl
     same_pair B = refl
@@ -93,7 +87,7 @@ module _ (f : Fields) (s : Stands f) where
     mac-world =
         world-net g ∙ ap (λ r. world_in f r (net_of after)) (names-called f after same_names)
         ∙ world-becomes f (name_of f) (on_pair h.pair (with_mac_at h.side mac) (net_of f.tables)) f.tables after becomes
-        ∙ pair-edited f s (name_of f) (net_of f.tables) h.pair (key_of (name_of f h)) its_key pair was (with_mac_at h.side mac) (with_mac h.side mac) (same_pair h.side)
+        ∙ pair-edited f s (name_of f) (net_of f.tables) h.pair (key_of (name_of f h)) (key-named f h.pair pair was h.side) pair was (with_mac_at h.side mac) (with_mac h.side mac) (same_pair h.side)
         ∙ ap (edit_pair (key_of (name_of f h)) (with_mac h.side mac)) (sym (world-net f))
 
     pub mac-leaves : Leaves (with_mac_on (Some (OfHalf (name_of f h))) mac (world_of f)) f g
@@ -102,6 +96,7 @@ module _ (f : Fields) (s : Stands f) where
       world = mac-world;
       stands = stands-called f after same_names s (λ q. refl) sound;
       grows = record { jails = omega arith; pairs = omega (arith, numbers) };
+      read = refl;
     }
 
   -- ---- the half of a name
@@ -129,13 +124,6 @@ module _ (f : Fields) (s : Stands f) where
       pub mac-bad : is_no_station mac ≡ true → Answered (answer (world_of f) (mac_setting p name mac (world_of f))) (Refused errno.Inval) f f
       mac-bad bad = answered-refused f (mac_setting p name mac (world_of f)) s errno.Inval (by_mac true bad)
 
-      its_pair : (pair : PairOfNumber) × (pair_at f.tables h.pair ≡ Some pair)
-      its_pair = let there = stands-pair sid h.side (pair_at f.tables h.pair) (found-stands s.sound sid name h (sym e)).0 in (there.0, there.1)
-
-      -- the half has a pair
-      pub mac-there : IsSome (pair_at f.tables h.pair)
-      mac-there = subst (λ (o : Option PairOfNumber). IsSome o) (sym its_pair.1) refl
-
       pub mac-done : is_no_station mac ≡ false → (pairs : List (Option PairOfNumber))
           → number_of_pair pairs h.pair ≡ Some (with_end h.side (record (half_of f.tables.pairs h) { mac = mac }) (pair_known f.tables.pairs h.pair))
           → ChangesOnly h.pair (pair_at f.tables) (number_of_pair pairs) → length pairs ≡ length f.tables.pairs
@@ -143,4 +131,5 @@ module _ (f : Fields) (s : Stands f) where
       mac-done good pairs set others numbers = answered-done f (mac_setting p name mac (world_of f)) (record f { tables = record f.tables { pairs = pairs } }) Done
           (by_mac false good) refl
           (subst (λ on. Leaves (with_mac_on on mac (world_of f)) f (record f { tables = record f.tables { pairs = pairs } })) (sym (standing-is (Some (OfHalf h)) e))
-          (mac-leaves h mac its_pair.0 its_pair.1 pairs (set ∙ ap (λ o. Some (with_mac_at h.side mac (unwrap_or o (new_pair 0 0)))) its_pair.1) others numbers))
+          (let there = found-pair s sid name h e in
+          mac-leaves h mac there.0 there.1 pairs (set ∙ ap (λ o. Some (with_mac_at h.side mac (unwrap_or o (new_pair 0 0)))) there.1) others numbers))

@@ -13,7 +13,7 @@ use Rattle.vn_types.specs.Interfaces.{as_if, half_id_eq}
 use Rattle.vn_types.specs.Paths.{Path}
 use Rattle.vn_rules.specs.declared.outcome.Outcome.TheVariants.{Done, Refused}
 use Rattle.vn_rules.specs.LinkCommands.{down_rule, half_alone, half_only, set_up}
-use Rattle.vn_rules.specs.Rules.{Common, done}
+use Rattle.vn_rules.specs.Rules.{Rule, done}
 use Rattle.vn_rules.specs.Scenes.{SceneOf, renamed_scene}
 use Rattle.vn_rules.proofs.LinkLaws.{set_up-renamed}
 use Rattle.vn_packets.specs.AddressLinks.{come_up_on, up_rule}
@@ -30,7 +30,7 @@ use Rattle.vn_cells.specs.declared.command.Command.TheVariants.{Destroy, Down, E
 use Rattle.vn_cells.specs.machine.Commands.{named_in, near_rule}
 use Rattle.vn_cells.specs.machine.Reach.{Near, reach}
 use Rattle.vn_cells.specs.world.Names.{half_eq, half_name}
-use Rattle.vn_ipcore.specs.Scenes.{Replaces, scene_of}
+use Rattle.vn_ipcore.specs.Scenes.{Replaces}
 use Rattle.vn_ipcore.proofs.Back.{replaces_same}
 use Rattle.vn_kernel.specs.Fields.{Fields}
 use Rattle.vn_kernel.specs.Naming.{name_of}
@@ -39,6 +39,7 @@ use Rattle.vn_kernel.proofs.moving.Faithful.{name-kept}
 use Rattle.vn_kernel.proofs.moving.Refused.{number-lives}
 use Rattle.vn_kernel.proofs.scenes.Named.{lo0-named, named-here}
 use Rattle.vn_kernel.proofs.scenes.Near.{near_done, near_refused}
+use Rattle.vn_kernel.proofs.scenes.Seen.{common_in, named_scene, scene_at}
 
 -- ---- rules under other names of halves
 
@@ -57,79 +58,77 @@ down_rule-renamed r at_n at_m faithful on s i = record { refusals = alone-rename
 -- ---- an interface by its name
 
 module _ {f : Fields} (s : Stands f) (issuer : Path) (alive : is_alive issuer f.jails ≡ true) (number : ℕ) (at : number ≡ number_of issuer f.jails) where
-  abbrev common : Common
-  common = record { clock = f.clock }
+  -- what `up` and `down` make of what stands under the name
+  abbrev up_of : Option (IfOf HalfId) → Rule (SceneOf HalfId)
+  up_of on = up_rule half_id_eq on (scene_at f number)
 
-  abbrev scene : SceneOf HalfId
-  scene = scene_of f.tables number
+  abbrev down_of : Option (IfOf HalfId) → Rule (SceneOf HalfId)
+  down_of on = down_rule half_id_eq on (scene_at f number)
 
-  abbrev scene_named : SceneOf Half
-  scene_named = renamed_scene (name_of f) scene
+  abbrev scene : SceneOf Half
+  scene = named_scene f (scene_at f number)
 
   module _ (name : IfName) (on : Option (IfOf HalfId)) (is : on ≡ named name (held f.tables number)) where
-    named-is : named_in half_name name scene_named ≡ option_map (as_if (name_of f)) on
+    named-is : named_in half_name name scene ≡ option_map (as_if (name_of f)) on
     named-is = named-here s number name ∙ ap (option_map (as_if (name_of f))) (sym is)
 
-    up-same : near_rule half_eq half_name common (Up name) scene_named ≡ as_rule (name_of f) (up_rule half_id_eq on scene)
+    up-same : near_rule half_eq half_name (common_in f) (Up name) scene ≡ as_rule (name_of f) (up_of on)
     unfolding near_rule
-    up-same = ap (λ o. up_rule half_eq o scene_named) named-is ∙ up_rule-renamed (name_of f) half_id_eq half_eq (name-kept s) on scene
+    up-same = ap (λ o. up_rule half_eq o scene) named-is ∙ up_rule-renamed (name_of f) half_id_eq half_eq (name-kept s) on (scene_at f number)
 
-    down-same : near_rule half_eq half_name common (Down name) scene_named ≡ as_rule (name_of f) (down_rule half_id_eq on scene)
+    down-same : near_rule half_eq half_name (common_in f) (Down name) scene ≡ as_rule (name_of f) (down_of on)
     unfolding near_rule
-    down-same = ap (λ o. down_rule half_eq o scene_named) named-is ∙ down_rule-renamed (name_of f) half_id_eq half_eq (name-kept s) on scene
+    down-same = ap (λ o. down_rule half_eq o scene) named-is ∙ down_rule-renamed (name_of f) half_id_eq half_eq (name-kept s) on (scene_at f number)
 
   module _ (name : IfName) where
     -- ---- up
 
     pub up-missing : None ≡ named name (held f.tables number) → Ran issuer (Up name) (Refused errno.NxIo) f f
     unfolding reach up_rule
-    up-missing is = near_refused s issuer alive number at (Up name) (up_rule half_id_eq None scene) (up-same name None is) refl errno.NxIo refl
+    up-missing is = near_refused s issuer alive number at (Up name) (up_of None) (up-same name None is) refl errno.NxIo refl
 
     pub up-lo0 : Some Lo0 ≡ named name (held f.tables number) → Ran issuer (Up name) Done f f
     unfolding reach up_rule come_up_on set_up
-    up-lo0 is = near_done s issuer alive number at (Up name) (up_rule half_id_eq (Some Lo0) scene) (up-same name (Some Lo0) is) refl f.tables refl (replaces_same s.sound number)
+    up-lo0 is = near_done s issuer alive number at (Up name) (up_of (Some Lo0)) (up-same name (Some Lo0) is) refl f.tables refl (replaces_same s.sound number)
 
     pub down-missing : None ≡ named name (held f.tables number) → Ran issuer (Down name) (Refused errno.NxIo) f f
     unfolding reach
-    down-missing is = near_refused s issuer alive number at (Down name) (down_rule half_id_eq None scene) (down-same name None is) refl errno.NxIo refl
+    down-missing is = near_refused s issuer alive number at (Down name) (down_of None) (down-same name None is) refl errno.NxIo refl
 
     pub down-lo0 : Some Lo0 ≡ named name (held f.tables number) → Ran issuer (Down name) (Refused errno.Inval) f f
     unfolding reach
-    down-lo0 is = near_refused s issuer alive number at (Down name) (down_rule half_id_eq (Some Lo0) scene) (down-same name (Some Lo0) is) refl errno.Inval refl
+    down-lo0 is = near_refused s issuer alive number at (Down name) (down_of (Some Lo0)) (down-same name (Some Lo0) is) refl errno.Inval refl
 
     module _ (h : HalfId) (is : Some (OfHalf h) ≡ named name (held f.tables number)) where
       -- what is found stands there
       pub stands-there : stands_at number h.side (pair_at f.tables h.pair) ≡ true
       stands-there = (found-stands s.sound number name h (sym is)).0
 
-      pub up-done : (u : Tables) → Replaces number (up_rule half_id_eq (Some (OfHalf h)) scene).otherwise.left f.tables u → Ran issuer (Up name) Done f (record f { tables = u })
+      pub up-done : (u : Tables) → Replaces number (up_of (Some (OfHalf h))).otherwise.left f.tables u → Ran issuer (Up name) Done f (record f { tables = u })
       unfolding reach up_rule
-      up-done u replaces = near_done s issuer alive number at (Up name) (up_rule half_id_eq (Some (OfHalf h)) scene) (up-same name (Some (OfHalf h)) is) refl u refl replaces
+      up-done u replaces = near_done s issuer alive number at (Up name) (up_of (Some (OfHalf h))) (up-same name (Some (OfHalf h)) is) refl u refl replaces
 
-      pub down-done : (u : Tables) → Replaces number (down_rule half_id_eq (Some (OfHalf h)) scene).otherwise.left f.tables u → Ran issuer (Down name) Done f (record f { tables = u })
+      pub down-done : (u : Tables) → Replaces number (down_of (Some (OfHalf h))).otherwise.left f.tables u → Ran issuer (Down name) Done f (record f { tables = u })
       unfolding reach
-      down-done u replaces = near_done s issuer alive number at (Down name) (down_rule half_id_eq (Some (OfHalf h)) scene) (down-same name (Some (OfHalf h)) is) refl u refl replaces
+      down-done u replaces = near_done s issuer alive number at (Down name) (down_of (Some (OfHalf h))) (down-same name (Some (OfHalf h)) is) refl u refl replaces
 
 -- ---- lo0
 
 module _ {f : Fields} (s : Stands f) (issuer : Path) (alive : is_alive issuer f.jails ≡ true) where
   -- lo0 is refused what its rule gives to halves alone
   lo0_refused : (command : Command)
-      → ((scene : SceneOf Half) → near_rule half_eq half_name (record { clock = f.clock }) command scene ≡ half_only (named_in half_name ifname.Lo0 scene) scene)
+      → ((scene : SceneOf Half) → near_rule half_eq half_name (common_in f) command scene ≡ half_only (named_in half_name ifname.Lo0 scene) scene)
       → reach issuer command ≡ Near → Ran issuer command (Refused errno.Inval) f f
   lo0_refused command only near =
-      near_refused s issuer alive number refl command (half_only (Some Lo0) scene)
-      (only (renamed_scene (name_of f) scene)
-      ∙ ap (λ o. half_only o (renamed_scene (name_of f) scene))
+      near_refused s issuer alive number refl command (half_only (Some Lo0) (scene_at f number))
+      (only (named_scene f (scene_at f number))
+      ∙ ap (λ o. half_only o (named_scene f (scene_at f number)))
       (named-here s number ifname.Lo0 ∙ ap (option_map (as_if (name_of f))) (lo0-named s number (s.living number ∙ number-lives s issuer alive)))
-      ∙ half_only-renamed (name_of f) (Some Lo0) scene)
+      ∙ half_only-renamed (name_of f) (Some Lo0) (scene_at f number))
       near errno.Inval refl
     where
       number : ℕ
       number = number_of issuer f.jails
-
-      scene : SceneOf HalfId
-      scene = scene_of f.tables number
 
   -- it has no pair that could be destroyed
   pub lo0_destroyed : Ran issuer (Destroy ifname.Lo0) (Refused errno.Inval) f f

@@ -3,7 +3,6 @@ use Rattle.std.proofs.Common.{◌≡◌, ℕ, ◌<◌, ◌≤◌, ◌^◌, Bool,
 use Rattle.std.specs.Prelude.{nat_lt}
 use Rattle.std.specs.BTreeMap.{insert_entry}
 use Rattle.std.specs.List.{list_any}
-use Rattle.std.specs.Option.{is_some}
 use Rattle.std.proofs.lemmas.Bool.{and_parts, cases_lt, cases_eq, ltb-false, ltb-true, not-true, not-false, true≢false}
 use Rattle.vn_types.specs.declared.errno.Errno.{Errno}
 use Rattle.vn_types.specs.declared.errno.Errno.TheVariants as errno
@@ -17,6 +16,7 @@ use Rattle.vn_types.proofs.RefusalLaws.{none-applies}
 use Rattle.vn_rules.specs.declared.outcome.Outcome.{Outcome}
 use Rattle.vn_rules.specs.declared.outcome.Outcome.TheVariants.{Refused, Value}
 use Rattle.vn_rules.specs.Rules.{answer, answer_by}
+use Rattle.vn_arp.proofs.Followed.{none_there}
 use Rattle.vn_epair.specs.declared.pair_row.TheConstants.{UNIT_MAX}
 use Rattle.vn_epair.specs.Pairs.{IsLowestFree, is_named}
 use Rattle.vn_jail.specs.Tree.{is_alive, number_of}
@@ -63,11 +63,7 @@ module _ (f : Fields) (s : Stands f) (p : Path) (alive : is_alive p f.jails ≡ 
       fits = let low = ltb-false UNIT_MAX unit passes.0 in omega arith
 
       unhomed : find key_cmp (p, unit) f.units ≡ None
-      unhomed = missing (find key_cmp (p, unit) f.units) (found-homed f s p alive unit ∙ not-true (list_any (is_named home unit) f.tables.pairs) (and_parts _ _ (and_parts _ _ passes.1).0).0)
-        where
-          missing : (o : Option ℕ) → is_some o ≡ false → o ≡ None
-          missing None e = refl
-          missing (Some m) e = cc
+      unhomed = none_there (find key_cmp (p, unit) f.units) (found-homed f s p alive unit ∙ not-true (list_any (is_named home unit) f.tables.pairs) (and_parts _ _ (and_parts _ _ passes.1).0).0)
 
       pub making-done : (n : ℕ) (u : Tables) → Makes (number_of p f.jails) unit n f.tables u
           → Answered (answer (world_of f) (making p unit (world_of f))) (Value (ifname_text (Epair unit A))) f (record f { tables = u; units = put key_cmp (p, unit) n f.units })

@@ -17,7 +17,7 @@ use Rattle.vn_epair.specs.Pairs.{is_named}
 use Rattle.vn_epair.proofs.Changes.{inside}
 use Rattle.vn_ifnet.specs.Stacks.{named}
 use Rattle.vn_jail.specs.Tree.{is_alive, number_of, path_at}
-use Rattle.vn_jail.proofs.Numbers.{alive-known, is-alive, number-is, number-known, within}
+use Rattle.vn_jail.proofs.Numbers.{number-is, within}
 use Rattle.vn_vmove.specs.Parts.{held, lives, pair_at}
 use Rattle.vn_cells.specs.commands.Taken.{is_homed, is_unit_free, standing}
 use Rattle.vn_kernel.specs.Fields.{Fields}
@@ -27,6 +27,7 @@ use Rattle.vn_kernel.specs.Stands.{Stands}
 use Rattle.vn_kernel.specs.Worlds.{pair_of, world_of}
 use Rattle.vn_kernel.proofs.moving.Faithful.{key-found}
 use Rattle.vn_kernel.proofs.moving.Found.{found-key, standing-alive}
+use Rattle.vn_kernel.proofs.moving.Refused.{number-path}
 use Rattle.vn_kernel.proofs.moving.Unmade.{pair-found}
 
 is_some-map : {X Y : Type 0} (g : X → Y) (o : Option X) → is_some (option_map g o) ≡ is_some o
@@ -44,14 +45,6 @@ module _ (f : Fields) (s : Stands f) where
     abbrev n : ℕ
     n = number_of p f.jails
 
-    pub path-back : path_at f.jails (number_of p f.jails) ≡ p
-    path-back = (number-known f.jails p (alive-known f.jails p alive)).1
-
-    -- the tables know that it lives
-    pub number-lives : lives f.tables (number_of p f.jails) ≡ true
-    number-lives = let there = number-known f.jails p (alive-known f.jails p alive) in
-        s.living n ∙ sym (is-alive f.jails s.linked p n there.0 there.1) ∙ alive
-
     pub stands-here : (name : IfName) → is_none (standing (world_of f) p name) ≡ not (stands_in f.tables (number_of p f.jails) name)
     stands-here name = ap is_none (standing-alive s p name alive) ∙ is_none-map (as_if (name_of f)) (named name (held f.tables n))
 
@@ -65,7 +58,7 @@ module _ (f : Fields) (s : Stands f) where
         by : (o : Option Pair) → is_named n unit o ≡ true → option_map (key_by f.jails) o ≡ Some (p, unit)
         by None e = cc
         by (Some pair) e = let both = and_parts (pair.home == n) (pair.unit == unit) e in
-            λ i. Some ((ap (path_at f.jails) (eqb-true pair.home n both.0) ∙ path-back) i, eqb-true pair.unit unit both.1 i)
+            λ i. Some ((ap (path_at f.jails) (eqb-true pair.home n both.0) ∙ number-path s p alive) i, eqb-true pair.unit unit both.1 i)
 
     path-homed : (m : ℕ) (unit : ℕ) → key_in f m ≡ Some (p, unit) → (is_named n unit (pair_at f.tables m) ≡ true) × (m < length f.tables.pairs)
     unfolding key_in

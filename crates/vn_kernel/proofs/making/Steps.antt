@@ -1,22 +1,21 @@
 -- The steps of a pair that is made, put together, and what is refused.
-use Rattle.std.proofs.Common.{◌≡◌, ◌≢◌, ℕ, zero, suc, ◌+◌, ◌<◌, ◌≤◌, ◌==◌, Bool, true, false, ◌&&◌, ◌||◌, not, List, [], ◌∷◌, ◌++◌, length, get_or, Option, Some, None, refl, sym, ap, ◌∙◌, arith, ⊎_elim}
+use Rattle.std.proofs.Common.{◌≡◌, ◌≢◌, ℕ, zero, suc, ◌<◌, ◌≤◌, ◌==◌, Bool, true, false, ◌&&◌, ◌||◌, not, List, [], ◌∷◌, ◌++◌, length, get_or, Option, Some, None, refl, sym, ap, ◌∙◌, arith, ⊎_elim}
 use Rattle.std.specs.Prelude.{nat_lt}
 use Rattle.std.specs.List.{list_any}
-use Rattle.std.specs.Option.{is_some}
 use Rattle.std.proofs.lemmas.Bool.{cases_lt, or_parts}
 use Rattle.std.proofs.lemmas.List.{get_or_append_left, get_or_past, length-append}
+use Rattle.std.proofs.Math.Bool.{and-false}
 use Rattle.std.proofs.Math.Seq.{get_or-append_seam}
 use Rattle.vn_types.specs.declared.errno.Errno.{Errno}
 use Rattle.vn_types.specs.declared.errno.Errno.TheVariants as errno
 use Rattle.vn_types.specs.declared.interface.IfName.{IfName}
 use Rattle.vn_types.specs.declared.interface.IfName.TheVariants.{Epair}
-use Rattle.vn_types.specs.declared.interface.IfOf.{IfOf}
-use Rattle.vn_types.specs.declared.interface.HalfId.{HalfId}
 use Rattle.vn_types.specs.declared.interface.Side.{Side}
 use Rattle.vn_types.specs.declared.interface.Side.TheVariants.{A, B}
 use Rattle.vn_types.specs.PerStack.{ChangesOnly}
 use Rattle.vn_types.specs.Refusals.{first_refusal}
 use Rattle.vn_types.proofs.RefusalLaws.{none-applies}
+use Rattle.vn_arp.proofs.Followed.{none_there}
 use Rattle.vn_epair.specs.declared.pair_row.TheConstants.{UNIT_MAX}
 use Rattle.vn_epair.specs.Halves.{Pair}
 use Rattle.vn_epair.specs.Pairs.{create_refusal, is_named, new_pair, of as pair_of}
@@ -45,12 +44,6 @@ making-unnamed false homed false true e = cc
 making-unnamed false true false false e = refl
 making-unnamed false false false false e = refl
 
-making-named : (homed a b : Bool) → (a || b) ≡ true → making_by false homed a b ≡ Some errno.Exist
-making-named true a b e = refl
-making-named false true b e = refl
-making-named false false true e = refl
-making-named false false false e = cc
-
 module _ (t : Tables) (home unit : ℕ) where
   abbrev stands_under : Side → Bool
   stands_under side = stands_in t home (Epair unit side)
@@ -58,10 +51,6 @@ module _ (t : Tables) (home unit : ℕ) where
   -- where neither name stands a pair is refused for what the table of pairs refuses
   pub making-as_created : (stands_under A || stands_under B) ≡ false → making_refusal t home unit ≡ create_refusal home unit t.pairs
   making-as_created e = making-unnamed (nat_lt UNIT_MAX unit) (list_any (is_named home unit) t.pairs) (stands_under A) (stands_under B) e
-
-  pub making-taken : nat_lt UNIT_MAX unit ≡ false → (stands_under A || stands_under B) ≡ true → making_refusal t home unit ≡ Some errno.Exist
-  making-taken fits e = ap (λ great. making_by great (list_any (is_named home unit) t.pairs) (stands_under A) (stands_under B)) fits
-      ∙ making-named (list_any (is_named home unit) t.pairs) (stands_under A) (stands_under B) e
 
 -- ---- the table of pairs, with one more
 
@@ -78,15 +67,11 @@ module _ (t : Tables) (s : IsSound t) (home unit n : ℕ) (live : lives t home �
     (unheld : (stands_in t home (Epair unit A) || stands_in t home (Epair unit B)) ≡ false)
     (number : n ≡ length t.pairs) where
   unnamed : (side : Side) → named (Epair unit side) (held t home) ≡ None
-  unnamed side = missing (named (Epair unit side) (held t home)) (by side)
+  unnamed side = none_there (named (Epair unit side) (held t home)) (by side)
     where
       by : (side : Side) → stands_in t home (Epair unit side) ≡ false
       by A = (or_parts (stands_in t home (Epair unit A)) (stands_in t home (Epair unit B)) unheld).0
       by B = (or_parts (stands_in t home (Epair unit A)) (stands_in t home (Epair unit B)) unheld).1
-
-      missing : (o : Option (IfOf HalfId)) → is_some o ≡ false → o ≡ None
-      missing None e = refl
-      missing (Some on) e = cc
 
   pub a-unnamed : named (Epair unit A) (held t home) ≡ None
   a-unnamed = unnamed A
@@ -94,11 +79,7 @@ module _ (t : Tables) (s : IsSound t) (home unit n : ℕ) (live : lives t home �
   pub b-unnamed : (mid : List Held) → ((q : ℕ) → (held_of mid q).attached ≡ come (half_on A n) (Epair unit A) home q (held t q).attached)
       → named (Epair unit B) (held_of mid home) ≡ None
   b-unnamed mid a = ap (λ xs. named (Epair unit B) (record (held_of mid home) { attached = xs })) (a home)
-      ∙ come-missed (Epair unit B) (half_on A n) (Epair unit A) home (other (unit == unit)) (held t home).attached (unnamed B)
-    where
-      other : (b : Bool) → (b && false) ≡ false
-      other true = refl
-      other false = refl
+      ∙ come-missed (Epair unit B) (half_on A n) (Epair unit A) home (and-false (unit == unit)) (held t home).attached (unnamed B)
 
   module _ (pairs : List (Option Pair)) (created : pairs ≡ t.pairs ++ Some (new_pair home unit) ∷ []) (mid ifs : List Held)
       (attached_a : (q : ℕ) → (held_of mid q).attached ≡ come (half_on A n) (Epair unit A) home q (held t q).attached)

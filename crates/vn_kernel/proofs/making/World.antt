@@ -1,10 +1,9 @@
 -- A pair that is made under a number: what the world becomes, and that all fits together still.
 use Rattle.std.proofs.Common.{◌≡◌, ◌≢◌, ℕ, ◌<◌, ◌^◌, ◌==◌, Bool, true, false, List, [], Option, Some, None, IfSome, unwrap_or, refl, sym, ap, ap₂, ◌∙◌, subst, arith, ⊎_elim}
 use Rattle.std.specs.Prelude.{if◌then◌else◌}
-use Rattle.std.specs.Cmp.{both_ways}
 use Rattle.std.specs.List.{AllByRecursion}
 use Rattle.std.specs.Option.{option_map}
-use Rattle.std.proofs.lemmas.Bool.{cases_eq, eq-eqb, eqb-true, false_from_ne_true, ne_eqb, true≢false}
+use Rattle.std.proofs.lemmas.Bool.{cases_eq, false_from_ne_true, ne_eqb, true≢false}
 use Rattle.std.proofs.lemmas.List.{get_or_past}
 use Rattle.vn_types.specs.declared.half.Half.{Half}
 use Rattle.vn_types.specs.declared.interface.HalfId.{HalfId}
@@ -16,13 +15,12 @@ use Rattle.vn_types.specs.Paths.{Path, Key, key_cmp, key_eq, path_eq}
 use Rattle.vn_types.specs.PerStack.{ChangesOnly}
 use Rattle.vn_types.proofs.EntryLaws.{each-put, find-put, sorted-put}
 use Rattle.vn_types.proofs.Options.{none_some}
-use Rattle.vn_types.proofs.PathNames.{key_cmp-exact, key_eq-Decides, key_total, path_eq-Decides}
+use Rattle.vn_types.proofs.PathNames.{key_cmp-exact, key_eq-Decides, key_total}
 use Rattle.vn_rules.specs.declared.parts.PartsOf.{PartsOf}
 use Rattle.vn_rules.specs.Renamed.{renamed}
 use Rattle.vn_epair.specs.Halves.{Pair as PairOfNumber}
 use Rattle.vn_epair.specs.Pairs.{new_pair}
 use Rattle.vn_jail.specs.Tree.{is_alive, number_of, path_at}
-use Rattle.vn_jail.proofs.Numbers.{alive-known, number-known}
 use Rattle.vn_vmove.specs.declared.tables.Tables.{Tables}
 use Rattle.vn_vmove.specs.Moves.{half_on as number_on}
 use Rattle.vn_vmove.specs.Nets.{attached as attached_at}
@@ -41,12 +39,12 @@ use Rattle.vn_kernel.specs.Fields.{Fields}
 use Rattle.vn_kernel.specs.Makings.{made, Makes}
 use Rattle.vn_kernel.specs.Naming.{half_by, key_by, key_in, name_of}
 use Rattle.vn_kernel.specs.Stands.{Leaves, Stands}
-use Rattle.vn_kernel.specs.Worlds.{children_at, live_of, pair_by, pair_of, stack_of, world_of}
-use Rattle.vn_kernel.proofs.making.Found.{path-back}
+use Rattle.vn_kernel.specs.Worlds.{children_at, live_of, pair_by, pair_of, readers_of, stack_of, world_of}
 use Rattle.vn_kernel.proofs.making.Entries.{all-put, all_entries}
 use Rattle.vn_kernel.proofs.NamedThere.{same-named}
 use Rattle.vn_kernel.proofs.moving.Halves.{attached-renamed}
-use Rattle.vn_kernel.proofs.moving.Nets.{each-agree, each-twice}
+use Rattle.vn_kernel.proofs.moving.Nets.{each-agree, each-twice, number-alive}
+use Rattle.vn_kernel.proofs.moving.Refused.{number-lives, number-path}
 
 module _ (f : Fields) (s : Stands f) (p : Path) (alive : is_alive p f.jails ≡ true) (unit : ℕ) (fits : unit < 2 ^ 32) (n : ℕ) (u : Tables)
     (m : Makes (number_of p f.jails) unit n f.tables u) (free : find key_cmp (p, unit) f.units ≡ None) where
@@ -62,7 +60,7 @@ module _ (f : Fields) (s : Stands f) (p : Path) (alive : is_alive p f.jails ≡ 
   -- ---- pairs and names
 
   back : path_at f.jails home ≡ p
-  back = path-back f s p alive
+  back = number-path s p alive
 
   pair-new : pair_at u n ≡ Some (new_pair home unit)
   unfolding made
@@ -119,27 +117,25 @@ module _ (f : Fields) (s : Stands f) (p : Path) (alive : is_alive p f.jails ≡ 
   -- ---- stacks
 
   same_number : (q : Path) → is_alive q f.jails ≡ true → (number_of q f.jails == home) ≡ path_eq q p
-  same_number q lives = both_ways (number_of q f.jails == home) (path_eq q p)
-      (λ e. (path_eq-Decides q p).1 (sym (number-known f.jails q (alive-known f.jails q lives)).1 ∙ ap (path_at f.jails) (eqb-true (number_of q f.jails) home e) ∙ back))
-      (λ e. eq-eqb (number_of q f.jails) home (ap (λ r. number_of r f.jails) ((path_eq-Decides q p).0 e)))
+  same_number q lives = sym (number-alive f s.linked home (number-lives s p alive) q lives) ∙ ap (path_eq q) back
 
   stacks-made : (q : Path) (es : List Entry) → stack_of g q es ≡ two p unit (path_eq q p) (stack_of f q es)
   unfolding stack_of
   stacks-made q es = by (path_eq q p) refl (is_alive q f.jails) refl
     where
       by : (b : Bool) → path_eq q p ≡ b → (a : Bool) → is_alive q f.jails ≡ a
-          → ◌≡◌ {A = Stack} (record { entries = es; readers = []; live = if a then Some (live_of g (number_of q f.jails)) else None })
-          (two p unit b (record { entries = es; readers = []; live = if a then Some (live_of f (number_of q f.jails)) else None }))
+          → ◌≡◌ {A = Stack} (record { entries = es; readers = readers_of f q; live = if a then Some (live_of g (number_of q f.jails)) else None })
+          (two p unit b (record { entries = es; readers = readers_of f q; live = if a then Some (live_of f (number_of q f.jails)) else None }))
       by true e false d = refl
       by false e false d = refl
       by true e true d = λ i. record {
         entries = es;
-        readers = [];
+        readers = readers_of f q;
         live = Some (record { children = children_at f.jails (number_of q f.jails); parts = parts-new (number_of q f.jails) true (same_number q d ∙ e) i });
       }
       by false e true d = λ i. record {
         entries = es;
-        readers = [];
+        readers = readers_of f q;
         live = Some (record { children = children_at f.jails (number_of q f.jails); parts = parts-new (number_of q f.jails) false (same_number q d ∙ e) i });
       }
 
@@ -200,10 +196,12 @@ module _ (f : Fields) (s : Stands f) (p : Path) (alive : is_alive p f.jails ≡ 
       sound = m.sound;
       listed = s.listed;
       logs_rise = s.logs_rise;
+      read = s.read;
       keyed = keyed-made;
       paired = paired-made;
       units_rise = sorted-put key_cmp key_total (p, unit) n f.units s.units_rise;
       small = each_pair n (Some (new_pair home unit)) (pair_at f.tables) (pair_at u) pair-new pair-other (λ j pair. pair.unit < 2 ^ 32) fits s.small;
     };
     grows = record { jails = omega arith; pairs = omega (arith, m.numbers) };
+    read = refl;
   }

@@ -1,6 +1,6 @@
 -- A half that is lent or taken back by numbers: the world's answer.
 use Rattle.std.proofs.Common.{◌≡◌, ◌↔◌, ◌<◌, Bool, true, false, [], ◌∷◌, length, Option, Some, None, IfSome, IsSome, unwrap_or, refl, sym, ap, ap₂, ◌∙◌, subst, arith}
-use Rattle.std.specs.Option.{is_none, is_some, option_map}
+use Rattle.std.specs.Option.{is_none, option_map}
 use Rattle.std.proofs.lemmas.Bool.{false_from_ne_true, false≢true, true≢false}
 use Rattle.vn_types.specs.declared.errno.Errno.{Errno}
 use Rattle.vn_types.specs.declared.errno.Errno.TheVariants as errno
@@ -27,7 +27,6 @@ use Rattle.vn_vmove.specs.Moves.{lend_refusal, may_have as may_have_half, moved_
 use Rattle.vn_vmove.specs.Nets.{Becomes, net_of}
 use Rattle.vn_vmove.specs.Parts.{held, lives as lives_in, pair_at}
 use Rattle.vn_vmove.specs.Sound.{IsSound}
-use Rattle.vn_vmove.proofs.Names.{found-stands, stands-pair}
 use Rattle.vn_cells.specs.declared.world.World.{World}
 use Rattle.vn_cells.specs.commands.Moves.{lending, moved as moved_half, moved_on as moved_if, reclaiming}
 use Rattle.vn_cells.specs.commands.Taken.{may_have, standing}
@@ -36,7 +35,7 @@ use Rattle.vn_kernel.specs.Naming.{home_by, name_of}
 use Rattle.vn_kernel.specs.Stands.{Answered, Grows, Stands}
 use Rattle.vn_kernel.specs.Worlds.{world_of}
 use Rattle.vn_kernel.proofs.Answering.{answered-done, answered-left}
-use Rattle.vn_kernel.proofs.moving.Found.{home-alive}
+use Rattle.vn_kernel.proofs.moving.Found.{found-pair, home-alive}
 use Rattle.vn_kernel.proofs.moving.Moved.{moved_stands, moved_world, same_stands, same_world}
 use Rattle.vn_kernel.proofs.moving.Refused.{IsNumberOf, lend-refused, number-lives, number-path, reclaim-refused, standing-same}
 
@@ -51,13 +50,13 @@ module _ (f : Fields) (s : Stands f) (rule : Rule World) (u : Tables) (sound : I
   refused : (bad : Errno) → first_refusal rule.refusals ≡ Some bad → Becomes (net_of f.tables) f.tables u
       → Answered (answer (world_of f) rule) (Refused bad) f (record f { tables = u })
   refused bad is b = answered-left f rule (record f { tables = u }) bad is
-      (record { world = same_world f u b; stands = same_stands f u b s sound; grows = grows-same f u b.numbers })
+      (record { world = same_world f u b; stands = same_stands f u b s sound; grows = grows-same f u b.numbers; read = refl })
 
   -- one that nothing refuses does what its rule says
   ran : first_refusal rule.refusals ≡ None → rule.otherwise.outcome ≡ Done → world_of (record f { tables = u }) ≡ rule.otherwise.left → Stands (record f { tables = u })
       → length u.pairs ≡ length f.tables.pairs → Answered (answer (world_of f) rule) Done f (record f { tables = u })
   ran none outcome world stands numbers = answered-done f rule (record f { tables = u }) Done none (sym outcome)
-      (record { world = world; stands = stands; grows = grows-same f u numbers })
+      (record { world = world; stands = stands; grows = grows-same f u numbers; read = refl })
 
 -- ---- what stands under a name moves
 
@@ -75,7 +74,7 @@ module _ (f : Fields) (s : Stands f) (p q : Path) (from to : Sid) (at_p : IsNumb
   moved-if name None is b = (same_world f u b, same_stands f u b s sound)
   moved-if name (Some Lo0) is b = (same_world f u b, same_stands f u b s sound)
   moved-if name (Some (OfHalf h)) is b =
-      let there = stands-pair from.0 h.side (pair_at f.tables h.pair) (found-stands s.sound from.0 name h is).0 in (
+      let there = found-pair s from.0 name h (sym is) in (
         moved_world f s h there.0 there.1 from.0 to.0 u b (lives p from at_p) (lives q to at_q)
             ∙ ap₂ (λ x y. moved_half (name_of f h) x y (world_of f)) (path_is p from at_p) (path_is q to at_q),
         moved_stands f s h there.0 there.1 from.0 to.0 u b sound,
@@ -144,10 +143,7 @@ number-living f s p (Some sid) is = s.living sid.0 ∙ ap (λ n. (at f.jails n).
 
 module _ (f : Fields) (s : Stands f) (name : IfName) (sid : Sid) (h : HalfId) (found : Some (OfHalf h) ≡ named name (held f.tables sid.0)) where
   its_pair : (pair : Pair) × (pair_at f.tables h.pair ≡ Some pair) × ((end_of h.side pair).at ≡ sid.0)
-  its_pair = stands-pair sid.0 h.side (pair_at f.tables h.pair) (found-stands s.sound sid.0 name h (sym found)).0
-
-  pub pair-exists : IsSome (pair_at f.tables h.pair)
-  pair-exists = ap is_some its_pair.1
+  its_pair = found-pair s sid.0 name h found
 
   home-same : (home : Sid) → home.0 ≡ (pair_of f.tables.pairs h.pair).home → home.0 ≡ its_pair.0.home
   home-same home is = is ∙ ap (λ o. (unwrap_or o (new_pair 0 0)).home) its_pair.1

@@ -59,6 +59,7 @@ module _ (f : Fields) (u : Tables) (same : SameNames f.tables u) where
     sound = sound;
     listed = s.listed;
     logs_rise = s.logs_rise;
+    read = s.read;
     keyed = λ number. subst (λ (key : ℕ → Option Key). IfSome (key number) (λ k. find key_cmp k f.units ≡ Some number)) (sym keys-called) (s.keyed number);
     paired = subst (λ (key : ℕ → Option Key). AllByRecursion (λ (e : Key × ℕ). key e.1 ≡ Some e.0) f.units) (sym keys-called) s.paired;
     units_rise = s.units_rise;

@@ -2,7 +2,7 @@
 use Rattle.std.proofs.Common.{◌≡◌, ◌<◌, ℕ, List, length, Option, Some, None, IsSome, unwrap_or, refl, sym, ap, ◌∙◌, subst, arith}
 use Rattle.std.specs.BTreeMap.{is_at}
 use Rattle.std.specs.Map.{remove_entry}
-use Rattle.std.specs.Option.{is_some, option_map}
+use Rattle.std.specs.Option.{option_map}
 use Rattle.vn_types.specs.declared.errno.Errno.TheVariants as errno
 use Rattle.vn_types.specs.declared.interface.HalfId.{HalfId}
 use Rattle.vn_types.specs.declared.interface.IfName.{IfName}
@@ -25,7 +25,6 @@ use Rattle.vn_vmove.specs.Moves.{unmade}
 use Rattle.vn_vmove.specs.Nets.{Becomes, net_of}
 use Rattle.vn_vmove.specs.Parts.{held, pair_at}
 use Rattle.vn_vmove.specs.Sound.{IsSound}
-use Rattle.vn_vmove.proofs.Names.{found-stands, stands-pair}
 use Rattle.vn_cells.specs.commands.Pairs.{destroyed_by, destroyed_pair, destruction}
 use Rattle.vn_cells.specs.commands.Taken.{standing}
 use Rattle.vn_cells.specs.world.Names.{key_of}
@@ -36,7 +35,7 @@ use Rattle.vn_kernel.specs.Stands.{Answered, Leaves, Stands}
 use Rattle.vn_kernel.specs.Worlds.{world_of}
 use Rattle.vn_kernel.proofs.Answering.{answered-done, answered-refused}
 use Rattle.vn_kernel.proofs.moving.Faithful.{name-is}
-use Rattle.vn_kernel.proofs.moving.Found.{home-alive}
+use Rattle.vn_kernel.proofs.moving.Found.{found-exists, home-alive}
 use Rattle.vn_kernel.proofs.moving.Refused.{IsNumberOf, standing-same}
 use Rattle.vn_kernel.proofs.moving.Unmade.{pairs_after, removed-key, unmade_stands, unmade_world, without_key}
 
@@ -66,6 +65,7 @@ module _ (f : Fields) (s : Stands f) (n : ℕ) (exists : IsSome (pair_at f.table
           world = unmade_world f s n (pair_of f.tables.pairs n) its_pair u b sound;
           stands = unmade_stands f s n (pair_of f.tables.pairs n) its_pair u b sound;
           grows = record { jails = omega arith; pairs = omega (arith, b.numbers) };
+          read = refl;
         };
         pairs = pairs_after f s n (pair_of f.tables.pairs n) its_pair u b sound;
         units = refl;
@@ -97,9 +97,6 @@ module _ (f : Fields) (s : Stands f) (issuer : Path) (name : IfName) (sid : Sid)
   lo0-refused is = answered-refused f (destruction issuer name (world_of f)) s errno.Inval (sym (refusal (Some Lo0) is))
 
   module _ (h : HalfId) (is : Some (OfHalf h) ≡ named name (held f.tables sid.0)) where
-    pub half-exists : IsSome (pair_at f.tables h.pair)
-    half-exists = ap is_some (stands-pair sid.0 h.side (pair_at f.tables h.pair) (found-stands s.sound sid.0 name h (sym is)).0).1
-
     -- a half that stands there ends with its pair
     pub half-ended : (g : Fields) → Leaves (destroyed_pair (key_by f.jails (pair_of f.tables.pairs h.pair)) (world_of f)) f g
         → Answered (answer (world_of f) (destruction issuer name (world_of f))) Done f g
@@ -107,7 +104,7 @@ module _ (f : Fields) (s : Stands f) (issuer : Path) (name : IfName) (sid : Sid)
     half-ended g leaves = answered-done f (destruction issuer name (world_of f)) g Done (sym (refusal (Some (OfHalf h)) is)) refl (subst (λ w. Leaves w f g) (sym destroyed) leaves)
       where
         key_is : key_of (name_of f h) ≡ key_by f.jails (pair_of f.tables.pairs h.pair)
-        key_is = ap key_of (name-is f h.pair (pair_of f.tables.pairs h.pair) (its_pair f s h.pair half-exists) h.side)
+        key_is = ap key_of (name-is f h.pair (pair_of f.tables.pairs h.pair) (its_pair f s h.pair (found-exists s sid.0 name h is)) h.side)
 
         destroyed : destroyed_by (standing (world_of f) issuer name) (world_of f) ≡ destroyed_pair (key_by f.jails (pair_of f.tables.pairs h.pair)) (world_of f)
         destroyed = ap (λ o. destroyed_by o (world_of f)) (standing-same s issuer (Some sid) name at ∙ ap (option_map (as_if (name_of f))) (sym is)) ∙ ap (λ k. destroyed_pair k (world_of f)) key_is

@@ -3,6 +3,7 @@ use Rattle.std.proofs.Common.{◌≡◌, ◌<◌, ◌+◌, ◌^◌, ℕ, ◌==�
 use Rattle.std.specs.Cmp.{both_ways}
 use Rattle.std.specs.Option.{option_map}
 use Rattle.std.proofs.lemmas.Bool.{eq-eqb, eqb-true}
+use Rattle.vn_types.specs.declared.half.Half.{Half}
 use Rattle.vn_types.specs.declared.interface.HalfId.{HalfId}
 use Rattle.vn_types.specs.declared.interface.Side.{Side}
 use Rattle.vn_types.specs.Interfaces.{half_id_eq, side_eq}
@@ -12,7 +13,7 @@ use Rattle.vn_types.proofs.Options.{none_some, some_same}
 use Rattle.vn_types.proofs.PathNames.{key_eq-Decides}
 use Rattle.vn_epair.specs.Halves.{Pair}
 use Rattle.vn_vmove.specs.Parts.{pair_at}
-use Rattle.vn_cells.specs.world.Names.{half_eq, half_on}
+use Rattle.vn_cells.specs.world.Names.{half_eq, half_on, key_of}
 use Rattle.vn_kernel.specs.Fields.{Fields}
 use Rattle.vn_kernel.specs.Naming.{home_by, key_by, key_in, name_of, unit_by}
 use Rattle.vn_kernel.specs.Stands.{Stands}
@@ -26,6 +27,10 @@ module _ (f : Fields) (n : ℕ) (pair : Pair) (is : pair_at f.tables n ≡ Some 
   pub name-is : (side : Side) → name_of f (record { pair = n; side = side }) ≡ half_on side (key_by f.jails pair)
   unfolding name_of
   name-is side i = record { home = home_by f.jails (is i); unit = unit_by n (is i); side = side }
+
+  -- which are the pair's
+  pub key-named : (side : Side) → key_in f n ≡ Some (key_of (name_of f (record { pair = n; side = side })))
+  key-named side = key-is ∙ ap (λ (h : Half). Some (key_of h)) (sym (name-is side))
 
 module _ {f : Fields} (s : Stands f) where
   pub key-found : (n : ℕ) (k : Key) → key_in f n ≡ Some k → find key_cmp k f.units ≡ Some n

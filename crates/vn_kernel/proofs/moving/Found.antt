@@ -1,5 +1,5 @@
 -- What the world has at a path, by what the tables have at its number.
-use Rattle.std.proofs.Common.{◌≡◌, ℕ, Bool, true, false, cond, List, [], ◌∷◌, map, Option, Some, None, IfSome, refl, sym, ap, ap₂, ◌∙◌, subst}
+use Rattle.std.proofs.Common.{◌≡◌, ℕ, Bool, true, false, cond, List, [], ◌∷◌, map, Option, Some, None, IfSome, IsSome, refl, sym, ap, ap₂, ◌∙◌, subst}
 use Rattle.std.specs.Prelude.{if◌then◌else◌}
 use Rattle.std.specs.BTreeMap.{is_at}
 use Rattle.std.specs.Cmp.{both_ways, Equal-is}
@@ -25,6 +25,7 @@ use Rattle.vn_rules.specs.Named.{if_name, ifname_eq, interface_named}
 use Rattle.vn_rules.specs.Renamed.{renamed}
 use Rattle.vn_rules.proofs.Kept.{IsIn, all_in}
 use Rattle.vn_epair.specs.Halves.{Pair}
+use Rattle.vn_epair.specs.Pairs.{end_of}
 use Rattle.vn_ifnet.specs.declared.interfaces.Attached.{Attached}
 use Rattle.vn_ifnet.specs.Stacks.{named, reserved_by}
 use Rattle.vn_jail.specs.Tree.{at, is_alive, number_of, path_at}
@@ -33,7 +34,7 @@ use Rattle.vn_vmove.specs.Parts.{held, lives, pair_at}
 use Rattle.vn_vmove.specs.Sound.{IsHomedAs, half_name as name_by, is_rightly_named, name_in}
 use Rattle.vn_vmove.proofs.Deciding.{if-refl, name-is}
 use Rattle.vn_vmove.proofs.Listing.{what_of}
-use Rattle.vn_vmove.proofs.Names.{homed-reserved, listed-stands, stands-pair}
+use Rattle.vn_vmove.proofs.Names.{found-stands, homed-reserved, listed-stands, stands-pair}
 use Rattle.vn_cells.specs.world.Names.{half_name}
 use Rattle.vn_cells.specs.world.World.{ifs_in}
 use Rattle.vn_cells.specs.commands.Taken.{is_homed, standing}
@@ -47,6 +48,14 @@ use Rattle.vn_kernel.proofs.moving.Unmade.{pair-found}
 
 module _ {f : Fields} (s : Stands f) where
   -- ---- what stands under a name
+
+  -- a half that is found under a name stands there, and is of a pair
+  pub found-pair : (q : ℕ) (name : IfName) (h : HalfId) → Some (OfHalf h) ≡ named name (held f.tables q)
+      → (pair : Pair) × (pair_at f.tables h.pair ≡ Some pair) × ((end_of h.side pair).at ≡ q)
+  found-pair q name h is = stands-pair q h.side (pair_at f.tables h.pair) (found-stands s.sound q name h (sym is)).0
+
+  pub found-exists : (q : ℕ) (name : IfName) (h : HalfId) → Some (OfHalf h) ≡ named name (held f.tables q) → IsSome (pair_at f.tables h.pair)
+  found-exists q name h is = ap is_some (found-pair q name h is).1
 
   -- a half that stands somewhere is of a pair
   pub listed-pair : (q : ℕ) (g : HalfId) → list_any (if_same half_id_eq (OfHalf g)) (what_of (held f.tables q).attached) ≡ true

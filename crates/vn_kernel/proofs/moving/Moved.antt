@@ -19,11 +19,11 @@ use Rattle.vn_cells.specs.world.Names.{key_of}
 use Rattle.vn_cells.specs.commands.Moves.{moved as moved_half, placed_at as placed_path}
 use Rattle.vn_cells.specs.commands.Pairs.{attach as attach_half, attached as attached_half, detach as detach_half, detached as detached_half}
 use Rattle.vn_kernel.specs.Fields.{Fields}
-use Rattle.vn_kernel.specs.Naming.{key_in, name_of}
+use Rattle.vn_kernel.specs.Naming.{name_of}
 use Rattle.vn_kernel.specs.Stands.{Stands}
 use Rattle.vn_kernel.specs.Worlds.{pair_by, world_of}
 use Rattle.vn_kernel.proofs.moving.Called.{SameNames, called, names-called, stands-called}
-use Rattle.vn_kernel.proofs.moving.Faithful.{key-is, name-is, name-kept}
+use Rattle.vn_kernel.proofs.moving.Faithful.{key-named, name-is, name-kept}
 use Rattle.vn_kernel.proofs.moving.Halves.{attached-renamed, detached-renamed}
 use Rattle.vn_kernel.proofs.moving.Nets.{pair-edited, stack-edited, world-becomes, world-net, world_in}
 
@@ -59,9 +59,6 @@ module _ (f : Fields) (s : Stands f) (h : HalfId) (pair : Pair) (is : pair_at f.
   abbrev placed : Net
   placed = on_pair h.pair (placed_at h.side to) net
 
-  key-own : key_in f h.pair ≡ Some (key_of (name_of f h))
-  key-own = key-is f h.pair pair is ∙ ap (λ (g : Half). Some (key_of g)) (sym (name-is f h.pair pair is h.side))
-
   moved-net : (at f.jails from).alive ≡ true → (at f.jails to).alive ≡ true
       → world_in f (name_of f) (moved h from to net) ≡ moved_half (name_of f h) (path_at f.jails from) (path_at f.jails to) (world_in f (name_of f) net)
   unfolding moved moved_half name_of
@@ -70,7 +67,7 @@ module _ (f : Fields) (s : Stands f) (h : HalfId) (pair : Pair) (is : pair_at f.
       ∙ ap (attach_half (name_of f h) (path_at f.jails to))
       (stack-edited f s (name_of f) placed from leaves (detached h) (detached_half (name_of f h)) (λ p. detached-renamed (name_of f) h p (name-kept s))
       ∙ ap (detach_half (name_of f h) (path_at f.jails from))
-      (pair-edited f s (name_of f) net h.pair (key_of (name_of f h)) key-own pair is (placed_at h.side to) (placed_path h.side (path_at f.jails to)) (pair-placed f.jails h.side to pair)))
+      (pair-edited f s (name_of f) net h.pair (key_of (name_of f h)) (key-named f h.pair pair is h.side) pair is (placed_at h.side to) (placed_path h.side (path_at f.jails to)) (pair-placed f.jails h.side to pair)))
 
   module _ (u : Tables) (b : Becomes (moved h from to (net_of f.tables)) f.tables u) where
     pub moved-pairs : SameNames f.tables u

@@ -16,7 +16,7 @@ use Rattle.vn_epair.specs.Halves.{Pair as PairOfNumber}
 use Rattle.vn_epair.specs.Pairs.{new_pair}
 use Rattle.vn_jail.specs.Kept.{IsLinked}
 use Rattle.vn_jail.specs.Tree.{at, is_alive, number_of, path_at}
-use Rattle.vn_jail.proofs.Numbers.{alive-known, number-is, number-known, within}
+use Rattle.vn_jail.proofs.Numbers.{number-is, within}
 use Rattle.vn_vmove.specs.declared.tables.Tables.{Tables}
 use Rattle.vn_vmove.specs.Nets.{Becomes, Net, net_of, on_pair, on_stack, without_pair}
 use Rattle.vn_cells.specs.declared.transcript.Entry.{Entry}
@@ -28,7 +28,8 @@ use Rattle.vn_cells.specs.world.World.{drop_pair, each_pair, each_stack, edit_li
 use Rattle.vn_kernel.specs.Fields.{Fields}
 use Rattle.vn_kernel.specs.Naming.{key_in, name_of}
 use Rattle.vn_kernel.specs.Stands.{Stands}
-use Rattle.vn_kernel.specs.Worlds.{children_at, pair_by, pair_of, stack_of, world_of}
+use Rattle.vn_kernel.specs.Worlds.{children_at, pair_by, pair_of, readers_of, stack_of, world_of}
+use Rattle.vn_kernel.proofs.Jails.{alive-numbered}
 use Rattle.vn_kernel.proofs.moving.Faithful.{key-number}
 
 -- ---- lists of keys with values
@@ -68,7 +69,7 @@ live_in f r net number = record { children = children_at f.jails number; parts =
 abbrev pub stack_in : Fields → (HalfId → Half) → Net → Path → List Entry → Stack
 stack_in f r net p entries = record {
   entries = entries;
-  readers = [];
+  readers = readers_of f p;
   live = if is_alive p f.jails then Some (live_in f r net (number_of p f.jails)) else None;
 }
 
@@ -94,7 +95,7 @@ world-agree f r s net same i = record {
   clock = f.clock;
   stacks = each (λ p entries. record {
     entries = entries;
-    readers = [];
+    readers = readers_of f p;
     live = if is_alive p f.jails then Some (record { children = children_at f.jails (number_of p f.jails); parts = same (number_of p f.jails) i }) else None;
   }) f.logs;
   pairs = each (pair_in f net) f.units;
@@ -107,7 +108,7 @@ pub number-alive : (f : Fields) → IsLinked f.jails → (q : ℕ) → (at f.jai
     → path_eq p (path_at f.jails q) ≡ (number_of p f.jails == q)
 number-alive f linked q alive p lives = both_ways _ _
     (λ e. eq-eqb (number_of p f.jails) q (number-is f.jails linked p q (within f.jails q alive) (sym ((path_eq-Decides p (path_at f.jails q)).0 e))))
-    (λ e. (path_eq-Decides p (path_at f.jails q)).1 (sym (number-known f.jails p (alive-known f.jails p lives)).1 ∙ ap (path_at f.jails) (eqb-true (number_of p f.jails) q e)))
+    (λ e. (path_eq-Decides p (path_at f.jails q)).1 (sym (alive-numbered f.jails p lives).1 ∙ ap (path_at f.jails) (eqb-true (number_of p f.jails) q e)))
 
 module _ (f : Fields) (s : Stands f) (r : HalfId → Half) (net : Net) where
   module _ (q : ℕ) (alive : (at f.jails q).alive ≡ true) (g : PartsOf HalfId → PartsOf HalfId) (g' : PartsOf Half → PartsOf Half)
@@ -120,12 +121,12 @@ module _ (f : Fields) (s : Stands f) (r : HalfId → Half) (net : Net) where
         number = number_of p f.jails
 
         old : Bool → Stack
-        old a = record { entries = entries; readers = []; live = if a then Some (live_in f r net number) else None }
+        old a = record { entries = entries; readers = readers_of f p; live = if a then Some (live_in f r net number) else None }
 
         by : (a b c : Bool) → (a ≡ true → b ≡ c)
-            → ◌≡◌ {A = Stack} (record { entries = entries; readers = []; live = if a then Some (record { children = children_at f.jails number; parts = renamed r (if c then g (net.parts number) else net.parts number) }) else None })
+            → ◌≡◌ {A = Stack} (record { entries = entries; readers = readers_of f p; live = if a then Some (record { children = children_at f.jails number; parts = renamed r (if c then g (net.parts number) else net.parts number) }) else None })
             (if b then live_map (on_parts g') (old a) else old a)
-        by true true true e = λ i. record { entries = entries; readers = []; live = Some (record { children = children_at f.jails number; parts = same (net.parts number) i }) }
+        by true true true e = λ i. record { entries = entries; readers = readers_of f p; live = Some (record { children = children_at f.jails number; parts = same (net.parts number) i }) }
         by true false false e = refl
         by true true false e = absurd (true≢false (e refl))
         by true false true e = absurd (false≢true (e refl))

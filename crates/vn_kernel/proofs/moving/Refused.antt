@@ -1,5 +1,5 @@
 -- What vnet and -vnet refuse by numbers is what they refuse in the world.
-use Rattle.std.proofs.Common.{◌≡◌, ◌<◌, ℕ, Bool, true, false, ◌&&◌, ◌||◌, not, [], ◌∷◌, length, Option, Some, None, IfSome, refl, sym, ap, ap₂, ◌∙◌, subst}
+use Rattle.std.proofs.Common.{◌≡◌, ℕ, Bool, true, false, ◌&&◌, ◌||◌, not, [], ◌∷◌, Option, Some, None, IfSome, refl, sym, ap, ap₂, ◌∙◌, subst}
 use Rattle.std.specs.Cmp.{both_ways}
 use Rattle.std.specs.Option.{is_none, is_some, option_and_then, option_map}
 use Rattle.vn_types.specs.declared.errno.Errno.{Errno}
@@ -23,7 +23,7 @@ use Rattle.vn_epair.specs.Halves.{Pair}
 use Rattle.vn_epair.specs.Pairs.{end_of}
 use Rattle.vn_ifnet.specs.Stacks.{is_another as is_another_half, is_taken as is_taken_in, named, reserved_by}
 use Rattle.vn_jail.specs.Tree.{at, is_alive, number_of, path_at}
-use Rattle.vn_jail.proofs.Numbers.{alive-known, is-alive, number-known}
+use Rattle.vn_jail.proofs.Numbers.{is-alive}
 use Rattle.vn_vmove.specs.Moves.{is_kept_from, is_other_if, lend_refusal, may_have as may_have_half, reclaim_refusal, standing as standing_in}
 use Rattle.vn_vmove.specs.Parts.{held, pair_at}
 use Rattle.vn_vmove.specs.Sound.{IsHomedAs, half_name as name_by, name_in, stands_at}
@@ -36,6 +36,7 @@ use Rattle.vn_kernel.specs.Fields.{Fields}
 use Rattle.vn_kernel.specs.Naming.{home_by, name_of}
 use Rattle.vn_kernel.specs.Stands.{Stands}
 use Rattle.vn_kernel.specs.Worlds.{world_of}
+use Rattle.vn_kernel.proofs.Jails.{alive-numbered}
 use Rattle.vn_kernel.proofs.Views.{alive-is}
 use Rattle.vn_kernel.proofs.moving.Faithful.{name-kept}
 use Rattle.vn_kernel.proofs.moving.Found.{home-alive, one-number, reserved-is, standing-alive, standing-dead}
@@ -125,14 +126,11 @@ module _ {f : Fields} (s : Stands f) where
   -- ---- at paths
 
   module _ (p : Path) (lives : is_alive p f.jails ≡ true) where
-    path-known : (number_of p f.jails < length f.jails) × (path_at f.jails (number_of p f.jails) ≡ p)
-    path-known = number-known f.jails p (alive-known f.jails p lives)
-
     pub number-lives : (at f.jails (number_of p f.jails)).alive ≡ true
-    number-lives = sym (is-alive f.jails s.linked p (number_of p f.jails) path-known.0 path-known.1) ∙ lives
+    number-lives = let known = alive-numbered f.jails p lives in sym (is-alive f.jails s.linked p (number_of p f.jails) known.0 known.1) ∙ lives
 
     pub number-path : path_at f.jails (number_of p f.jails) ≡ p
-    number-path = path-known.1
+    number-path = (alive-numbered f.jails p lives).1
 
     -- a name is taken by another interface than one that has it elsewhere
     pub taken-same : (name : IfName) (on : Option (IfOf HalfId))

@@ -206,6 +206,7 @@ module _ (f : Fields) (s : Stands f) (n : ℕ) (pair : PairOfNumber) (is : pair_
       sound = sound;
       listed = s.listed;
       logs_rise = s.logs_rise;
+      read = s.read;
       keyed = keyed_after;
       paired = paired_after;
       units_rise = subst (IsStrictlySortedBy key_cmp) (sym (keys_of-without key_eq key f.units)) (IsStrictlySortedBy-filter key_cmp (λ q. not (key_eq q key)) (keys_of f.units) s.units_rise);

@@ -1,7 +1,5 @@
 -- The keys of one home are those between its lowest and its highest.
-use Rattle.std.proofs.Common.{◌≡◌, ℕ, ◌+◌, ◌^◌, ◌<◌, ◌≤◌, Bool, true, false, ◌&&◌, not, cond, List, [], ◌∷◌, ◌++◌, map, Option, Some, None, IfSome, refl, sym, ap, ap₂, ◌∙◌, subst, arith}
-use Rattle.std.specs.Prelude.{filter}
-use Rattle.std.specs.Cmp.{nat_cmp_is}
+use Rattle.std.proofs.Common.{◌≡◌, ℕ, ◌+◌, ◌^◌, ◌<◌, ◌≤◌, false, ◌&&◌, not, cond, List, [], ◌∷◌, ◌++◌, map, Option, Some, None, IfSome, refl, sym, ap, ap₂, ◌∙◌, subst, arith}
 use Rattle.std.specs.BTreeMap.Range.{entries_between}
 use Rattle.std.specs.List.{AllByRecursion}
 use Rattle.std.specs.Option.{option_map}
@@ -10,6 +8,7 @@ use Rattle.std.proofs.lemmas.List.{append-nil}
 use Rattle.std.specs.declared.cmp.Ordering.{Ordering}
 use Rattle.std.specs.declared.cmp.Ordering.TheVariants.{Less, Equal, Greater}
 use Rattle.std.specs.declared.ops.Bound.TheVariants.{Included}
+use Rattle.vn_types.specs.OctetOrder.{self_equal}
 use Rattle.vn_types.specs.PathOrder.{path_ties, path_total}
 use Rattle.vn_types.specs.Paths.{Path, Key, key_cmp, path_cmp, path_eq}
 use Rattle.vn_types.proofs.Options.{none_some, some_same}
@@ -24,12 +23,7 @@ use Rattle.vn_kernel.proofs.removing.Ending.{homed}
 module _ (p : Path) where
   -- no path comes before itself
   self : path_cmp p p ≡ Equal
-  self = by (path_cmp p p) (path_total.antisymm p p)
-    where
-      by : (r : Ordering) → r ≡ ordering_reverse r → r ≡ Equal
-      by Less e = cc
-      by Equal e = refl
-      by Greater e = cc
+  self = self_equal (path_cmp p p) (path_total.antisymm p p)
 
   nat_order : (x y : ℕ) → x ≤ y → is_gt (nat_cmp x y) ≡ false
   nat_order x y le = grind (arith, le)

@@ -1,29 +1,28 @@
 -- What is left of a stack is buried: the destructors' entries, its tables and its jail.
-use Rattle.std.proofs.Common.{◌≡◌, ◌≢◌, ℕ, ◌-◌, true, false, List, [], length, drop, reverse, refl, sym, ap, ap₂, ◌∙◌, subst, arith}
+use Rattle.std.proofs.Common.{◌≡◌, ℕ, true, List, length, drop, reverse, sym, ap, ◌∙◌, subst}
 use Rattle.vn_types.specs.Paths.{Path}
 use Rattle.vn_jail.specs.declared.jail.Jail.{Jail}
 use Rattle.vn_jail.specs.Kept.{IsLinked, IsTree}
 use Rattle.vn_jail.specs.Tree.{at, path_at, removed}
-use Rattle.vn_jail.proofs.Changes.{as-many}
 use Rattle.vn_vmove.specs.declared.tables.Tables.{Tables}
-use Rattle.vn_cells.specs.declared.world.World.{World}
-use Rattle.vn_cells.specs.commands.Removal.{homed_at, killed, torn_down}
+use Rattle.vn_cells.specs.commands.Removal.{killed, torn_down}
 use Rattle.vn_kernel.specs.Constructors.{constructors}
 use Rattle.vn_kernel.specs.declared.constructors.Constructor.{Constructor}
 use Rattle.vn_kernel.specs.Destruction.{Destructs, with_destructors}
 use Rattle.vn_kernel.specs.Fields.{Fields}
-use Rattle.vn_kernel.specs.Removal.{Buries, IsAlone, rows_before_return}
-use Rattle.vn_kernel.specs.Stands.{Stands}
+use Rattle.vn_kernel.specs.Removal.{Buries, GivesNoNumber, IsAlone, rows_before_return}
+use Rattle.vn_kernel.specs.Stands.{Stands, reading}
 use Rattle.vn_kernel.specs.Worlds.{world_of}
 use Rattle.vn_kernel.proofs.Destroyed.{noted_each, only-logs, stands-noted, world-noted}
 use Rattle.vn_kernel.proofs.removing.Ending.{homeless-none}
+use Rattle.vn_kernel.proofs.removing.Rest.{as-many-left, leaves-same}
 use Rattle.vn_kernel.proofs.removing.Killed.{stands-killed, world-killed}
 use Rattle.vn_kernel.proofs.removing.Vanished.{torn-noted}
 
 abbrev order : List Constructor
 order = drop 1 (reverse constructors)
 
-module _ (f : Fields) (s : Stands f) (q : ℕ) (alive : (at f.jails q).alive ≡ true) (jail : q ≢ 0) (alone : IsAlone q f.tables) where
+module _ (f : Fields) (s : Stands f) (q : ℕ) (alive : (at f.jails q).alive ≡ true) (alone : IsAlone q f.tables) where
   abbrev p : Path
   p = path_at f.jails q
 
@@ -49,26 +48,22 @@ module _ (f : Fields) (s : Stands f) (q : ℕ) (alive : (at f.jails q).alive ≡
 
     world : world_of gone ≡ killed p (torn_down f.clock p rows_before_return (world_of f))
     world =
-        world-killed noted stood q jail alive-noted linked tree u d
+        world-killed noted stood q alive-noted linked tree u d
         ∙ (λ i. killed (path_at (jails-same i) q) (world-entries i))
         ∙ sym (torn-noted f.clock p (world_of f) (homeless-none q f s alive alone.homeless))
 
-    same-numbers : length u.pairs ≡ length f.tables.pairs
+    same-numbers : GivesNoNumber f gone
     same-numbers = ap length d.pairs ∙ ap (λ (x : Fields). length x.tables.pairs) (only-logs p f.clock order f)
 
     buried : Buries q f gone
     buried = record {
-      leaves = record {
-        world = world;
-        stands = stands-killed noted stood q jail alive-noted linked tree u d;
-        grows = record {
-          jails = omega (arith, as-many (λ (j : Jail). record j { alive = false }) (λ n. n - 1) (path_at noted.jails q) noted.jails, ap (λ (jails : List Jail). length jails) jails-same);
-          pairs = omega (arith, same-numbers);
-        };
+      leaves = leaves-same world (stands-killed noted stood q alive-noted linked tree u d)
+          (as-many-left p f.jails (ap (λ jails. removed (path_at jails q) jails) jails-same)) same-numbers (ap reading (only-logs p f.clock order f));
+      ended = record {
+        jails = ap (λ jails. removed (path_at jails q) jails) jails-same;
+        numbers = same-numbers;
+        clock = ap (λ (x : Fields). x.clock) (only-logs p f.clock order f);
       };
-      jails = ap (λ jails. removed (path_at jails q) jails) jails-same;
-      numbers = same-numbers;
-      clock = ap (λ (x : Fields). x.clock) (only-logs p f.clock order f);
     }
 
   pub buries : (g : Fields) → g ≡ noted → (js : List Jail) → js ≡ removed (path_at g.jails q) g.jails → IsLinked js → IsTree js → (u : Tables) → Destructs q g.tables u

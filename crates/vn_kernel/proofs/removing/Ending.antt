@@ -1,12 +1,12 @@
 -- The pairs that are homed in a stack end, one after another.
-use Rattle.std.proofs.Common.{◌≡◌, ◌≢◌, ◌⊎◌, inl, inr, ℕ, ◌+◌, ◌<◌, ◌==◌, Bool, true, false, not, cond, List, [], ◌∷◌, length, drop, map, Option, Some, None, IfSome, IsSome, unwrap_or, refl, sym, ap, ap₂, ◌∙◌, subst, arith}
+use Rattle.std.proofs.Common.{◌≡◌, ◌≢◌, ◌⊎◌, inl, inr, ℕ, ◌==◌, Bool, true, false, not, cond, List, [], ◌∷◌, length, map, Option, Some, None, IfSome, IsSome, refl, sym, ap, ap₂, ◌∙◌, subst}
 use Rattle.std.specs.Prelude.{filter, if◌then◌else◌}
 use Rattle.std.specs.BTreeMap.{is_at}
 use Rattle.std.specs.List.{AllByRecursion}
 use Rattle.std.specs.List.Sorted.{IsStrictlySortedBy}
 use Rattle.std.specs.Map.{keys_of, lookup, remove_entry}
 use Rattle.std.specs.Cmp.{Equal-is}
-use Rattle.std.specs.Option.{is_some, option_map}
+use Rattle.std.specs.Option.{option_map}
 use Rattle.std.specs.Ordering.{is_eq}
 use Rattle.std.proofs.lemmas.Bool.{true≢false}
 use Rattle.std.proofs.lemmas.List.Kept.{IsStrictlySortedBy-filter}
@@ -17,7 +17,7 @@ use Rattle.vn_types.proofs.EntryLaws.{keys_of-each}
 use Rattle.vn_types.proofs.Options.{none_some, some_same}
 use Rattle.vn_types.proofs.PathNames.{key_cmp-exact, key_eq-Decides}
 use Rattle.vn_epair.specs.Halves.{Pair}
-use Rattle.vn_epair.specs.Pairs.{new_pair, pair_of}
+use Rattle.vn_epair.specs.Pairs.{pair_of}
 use Rattle.vn_jail.specs.declared.jail.Jail.{Jail}
 use Rattle.vn_jail.specs.Tree.{at, path_at}
 use Rattle.vn_jail.proofs.Numbers.{within}
@@ -26,12 +26,13 @@ use Rattle.vn_cells.specs.commands.Pairs.{destroyed_pair}
 use Rattle.vn_cells.specs.commands.Removal.{homed_at, without_pairs}
 use Rattle.vn_kernel.specs.Fields.{Fields}
 use Rattle.vn_kernel.specs.Naming.{key_by, key_in}
-use Rattle.vn_kernel.specs.Removal.{EndsHomed, EndsPair, homed_numbers}
-use Rattle.vn_kernel.specs.Stands.{Stands}
+use Rattle.vn_kernel.specs.Removal.{EndsHomed, EndsPair, EndsSome, homed_numbers}
+use Rattle.vn_kernel.specs.Stands.{Stands, reading}
 use Rattle.vn_kernel.specs.Worlds.{pair_of as pair_named, world_of}
 use Rattle.vn_kernel.proofs.moving.Ended.{home-known, its_pair}
 use Rattle.vn_kernel.proofs.moving.Faithful.{key-found, key-is}
 use Rattle.vn_kernel.proofs.moving.Unmade.{removed-key, without_key}
+use Rattle.vn_kernel.proofs.removing.Rest.{leaves-same, same-jails}
 
 -- ---- keys of one home
 
@@ -90,21 +91,16 @@ homed-world f p = ap (filter (λ (k : Key). path_eq k.0 p)) (keys_of-each (pair_
 
 -- so many pairs ended, and those that are homed there still are to end
 pub record Ending (q : ℕ) (f g : Fields) : Type 0 where
-  pub others : g ≡ record f { units = g.units; tables = g.tables }
+  pub ended : EndsSome f g
   pub stands : Stands g
-  pub numbers : length g.tables.pairs ≡ length f.tables.pairs
-  pub fewer : (n : ℕ) → (pair_at g.tables n ≡ pair_at f.tables n) ⊎ (pair_at g.tables n ≡ None)
   pub world : without_pairs (homed_at (world_of g) (path_at f.jails q)) (world_of g) ≡ without_pairs (homed_at (world_of f) (path_at f.jails q)) (world_of f)
 
 pub ending-none : (q : ℕ) (f : Fields) → Stands f → Ending q f f
-ending-none q f s = record { others = refl; stands = s; numbers = refl; fewer = λ n. inl refl; world = refl }
+ending-none q f s = record { ended = record { fewer = λ n. inl refl; numbers = refl; others = refl }; stands = s; world = refl }
 
 module _ (q : ℕ) (f g : Fields) (so : Ending q f g) where
   abbrev p : Path
   p = path_at f.jails q
-
-  jails-same : g.jails ≡ f.jails
-  jails-same = ap (λ (k : Fields). k.jails) so.others
 
   -- ---- the next one
 
@@ -173,7 +169,7 @@ module _ (q : ℕ) (f g : Fields) (so : Ending q f g) where
           ∙ ap (λ ks. without_pairs ks (world_of g)) (sym now)
 
       fewer : (m : ℕ) → (pair_at k.tables m ≡ pair_at f.tables m) ⊎ (pair_at k.tables m ≡ None)
-      fewer m = by (m == n) (c.pairs m) (so.fewer m)
+      fewer m = by (m == n) (c.pairs m) (so.ended.fewer m)
         where
           by : (b : Bool) → pair_at k.tables m ≡ (if b then None else pair_at g.tables m) → (pair_at g.tables m ≡ pair_at f.tables m) ⊎ (pair_at g.tables m ≡ None)
               → (pair_at k.tables m ≡ pair_at f.tables m) ⊎ (pair_at k.tables m ≡ None)
@@ -183,10 +179,12 @@ module _ (q : ℕ) (f g : Fields) (so : Ending q f g) where
 
       pub ending-next : Ending q f k
       ending-next = record {
-        others = c.others ∙ ap (λ (x : Fields). record x { units = k.units; tables = k.tables }) so.others;
+        ended = record {
+          fewer = fewer;
+          numbers = c.numbers ∙ so.ended.numbers;
+          others = c.others ∙ ap (λ (x : Fields). record x { units = k.units; tables = k.tables }) so.ended.others;
+        };
         stands = c.leaves.stands;
-        numbers = c.numbers ∙ so.numbers;
-        fewer = fewer;
         world = world ∙ so.world;
       }
 
@@ -210,19 +208,13 @@ module _ (q : ℕ) (f g : Fields) (so : Ending q f g) where
         by : (o : Option Pair) → pair_at g.tables n ≡ o → IfSome o (λ pair. pair.home ≢ q)
         by None is = tt
         by (Some pair) is = λ home. none-found p pair.unit g.units n none-homed
-            (ap (λ r. find key_cmp (r, pair.unit) g.units) (ap (λ jails. path_at jails q) (sym jails-same) ∙ ap (path_at g.jails) (sym home)) ∙ key-found so.stands n (key_by g.jails pair) (key-is g n pair is))
+            (ap (λ r. find key_cmp (r, pair.unit) g.units) (ap (λ jails. path_at jails q) (sym (same-jails f g so.ended.others)) ∙ ap (path_at g.jails) (sym home)) ∙ key-found so.stands n (key_by g.jails pair) (key-is g n pair is))
 
     pub ending-done : EndsHomed q f g
     ending-done = record {
-      leaves = record {
-        world = all-ended;
-        stands = so.stands;
-        grows = record { jails = omega (arith, ap (λ (jails : List Jail). length jails) jails-same); pairs = omega (arith, so.numbers) };
-      };
-      fewer = so.fewer;
-      numbers = so.numbers;
+      leaves = leaves-same all-ended so.stands (ap (λ (jails : List Jail). length jails) (same-jails f g so.ended.others)) so.ended.numbers (ap reading so.ended.others);
+      ended = so.ended;
       none = none-there;
-      others = so.others;
     }
 
 -- ---- where no pair is homed

@@ -1,8 +1,8 @@
 -- Halves that are lent to a stack go home, one after another.
-use Rattle.std.proofs.Common.{◌≡◌, ◌≢◌, ℕ, ◌+◌, ◌≤◌, ◌==◌, Bool, true, false, List, [], ◌∷◌, length, take, take_all, map, Option, Some, None, Result, Ok, Err, IfSome, IsSome, unwrap_or, add-one, refl, sym, ap, ap₂, ◌∙◌, subst, arith}
+use Rattle.std.proofs.Common.{◌≡◌, ℕ, ◌+◌, ◌≤◌, ◌==◌, Bool, true, false, List, [], ◌∷◌, length, take, take_all, map, Option, Some, None, Result, Ok, Err, IfSome, IsSome, unwrap_or, add-one, refl, sym, ap, ap₂, ◌∙◌, subst, arith}
 use Rattle.std.specs.Prelude.{slice_get, if◌then◌else◌}
 use Rattle.std.specs.Result.{OnOk}
-use Rattle.std.specs.List.{filter_map, list_any}
+use Rattle.std.specs.List.{filter_map}
 use Rattle.std.specs.Option.{is_some, option_and_then, option_map}
 use Rattle.std.proofs.lemmas.Bool.{eq-eqb, eqb-true, ne_eqb, true≢false}
 use Rattle.vn_types.specs.declared.half.Half.{Half}
@@ -11,9 +11,9 @@ use Rattle.vn_types.specs.declared.interface.IfOf.{IfOf}
 use Rattle.vn_types.specs.declared.interface.IfOf.TheVariants.{Lo0, Half as OfHalf}
 use Rattle.vn_types.specs.declared.interface.Side.{Side}
 use Rattle.vn_types.specs.declared.interface.Side.TheVariants.{A, B}
-use Rattle.vn_types.specs.Interfaces.{half_id_eq, if_same}
+use Rattle.vn_types.specs.Interfaces.{half_id_eq}
 use Rattle.vn_types.specs.Paths.{Path}
-use Rattle.vn_types.proofs.Options.{none_some, some_same}
+use Rattle.vn_types.proofs.Options.{none_some}
 use Rattle.vn_rules.specs.declared.parts.PartsOf.{PartsOf}
 use Rattle.vn_rules.specs.Interfaces.{without_interface}
 use Rattle.vn_rules.proofs.Purged.{purged-interfaces}
@@ -25,20 +25,21 @@ use Rattle.vn_vmove.specs.declared.tables.Tables.{Tables}
 use Rattle.vn_vmove.specs.Moves.{homeward, moved, placed_at}
 use Rattle.vn_vmove.specs.Nets.{Becomes, attached, detached, net_of}
 use Rattle.vn_vmove.specs.Parts.{pair_at, parts}
-use Rattle.vn_vmove.specs.Sound.{IsSound, stands_at, times}
+use Rattle.vn_vmove.specs.Sound.{IsSound, stands_at}
 use Rattle.vn_vmove.proofs.Listing.{count}
 use Rattle.vn_vmove.proofs.Names.{listed-stands}
 use Rattle.vn_cells.specs.commands.Moves.{moved as moved_half}
 use Rattle.vn_cells.specs.commands.Removal.{lent_here, sent_home}
 use Rattle.vn_kernel.specs.Fields.{Fields}
 use Rattle.vn_kernel.specs.Naming.{name_of}
-use Rattle.vn_kernel.specs.Removal.{ComesHome, SendsLentHome, homed_elsewhere, lent_half}
-use Rattle.vn_kernel.specs.Stands.{Stands}
+use Rattle.vn_kernel.specs.Removal.{ChangesTables, ComesHome, GivesNoNumber, SendsLentHome, homed_elsewhere, lent_half}
+use Rattle.vn_kernel.specs.Stands.{Stands, reading}
 use Rattle.vn_kernel.specs.Worlds.{world_of}
-use Rattle.vn_kernel.proofs.moving.Called.{SameNames, called, names-called}
+use Rattle.vn_kernel.proofs.moving.Called.{names-called}
 use Rattle.vn_kernel.proofs.moving.Ended.{its_pair}
 use Rattle.vn_kernel.proofs.moving.Moved.{home_stands, home_world, moved-pairs}
-use Rattle.vn_kernel.proofs.removing.Lent.{LeavesFirst, leaves-first, lent-here, lent-there, listed-there, half-there, none-listed, passes-next}
+use Rattle.vn_kernel.proofs.removing.Rest.{leaves-same, same-jails}
+use Rattle.vn_kernel.proofs.removing.Lent.{LeavesFirst, leaves-first, lent-here, lent-there, half-there, none-listed, passes-next}
 
 -- what two promises give together, each kept where there is a value
 pub both-ok : {T E P Q R : Type 0} (r : Result T E) → (P → Q → R) → OnOk r P → OnOk r Q → OnOk r R
@@ -50,11 +51,8 @@ both-ok (Err e) gives p q = tt
 module _ (f : Fields) (s : Stands f) (h : HalfId) (exists : IsSome (pair_at f.tables h.pair)) where
   pub comes-home : (u : Tables) → Becomes (homeward h (pair_at f.tables h.pair) (net_of f.tables)) f.tables u → IsSound u → ComesHome h f (record f { tables = u })
   comes-home u b sound = record {
-    leaves = record {
-      world = home_world f s h (pair_of f.tables.pairs h.pair) (its_pair f s h.pair exists) u b;
-      stands = home_stands f s h (pair_of f.tables.pairs h.pair) (its_pair f s h.pair exists) u b sound;
-      grows = record { jails = omega arith; pairs = omega (arith, b.numbers) };
-    };
+    leaves = leaves-same (home_world f s h (pair_of f.tables.pairs h.pair) (its_pair f s h.pair exists) u b)
+        (home_stands f s h (pair_of f.tables.pairs h.pair) (its_pair f s h.pair exists) u b sound) refl b.numbers refl;
     tables = b;
     others = refl;
   }
@@ -63,9 +61,9 @@ module _ (f : Fields) (s : Stands f) (h : HalfId) (exists : IsSome (pair_at f.ta
 
 -- so many interfaces of a stack were passed, the halves before them that were lent are home, and those to come go home then
 pub record Homing (q place : ℕ) (f g : Fields) : Type 0 where
-  pub others : g ≡ record f { tables = g.tables }
+  pub others : ChangesTables f g
   pub stands : Stands g
-  pub numbers : length g.tables.pairs ≡ length f.tables.pairs
+  pub numbers : GivesNoNumber f g
   pub world : sent_home (path_at f.jails q) (lent_here (world_of g) (path_at f.jails q)) (world_of g)
       ≡ sent_home (path_at f.jails q) (lent_here (world_of f) (path_at f.jails q)) (world_of f)
   pub passed : filter_map (lent_half g.tables q) (take place (parts g.tables q).interfaces) ≡ []
@@ -77,14 +75,11 @@ module _ (q place : ℕ) (f g : Fields) (so : Homing q place f g) where
   abbrev ons : Fields → List (IfOf HalfId)
   ons k = (parts k.tables q).interfaces
 
-  jails-same : g.jails ≡ f.jails
-  jails-same = ap (λ (k : Fields). k.jails) so.others
-
   path-same : path_at g.jails q ≡ path_at f.jails q
-  path-same = ap (λ jails. path_at jails q) jails-same
+  path-same = ap (λ jails. path_at jails q) (same-jails f g so.others)
 
   lives-still : (at f.jails q).alive ≡ true → (at g.jails q).alive ≡ true
-  lives-still alive = ap (λ jails. (at jails q).alive) jails-same ∙ alive
+  lives-still alive = ap (λ jails. (at jails q).alive) (same-jails f g so.others) ∙ alive
 
   -- an interface that stays
   pub homing-passed : option_and_then (lent_half g.tables q) (slice_get (ons g) place) ≡ None → Homing q (place + 1) f g
@@ -119,11 +114,7 @@ module _ (q place : ℕ) (f g : Fields) (so : Homing q place f g) where
         by false e = refl
 
     once : count (OfHalf h) (ons g) ≤ 1
-    once = let n = so.stands.sound.listed q (OfHalf h) in let m = most (stands_at q h.side (pair_at g.tables h.pair)) in omega arith
-      where
-        most : (b : Bool) → times b ≤ 1
-        most true = omega arith
-        most false = omega arith
+    once = grind (arith, so.stands.sound.listed q (OfHalf h))
 
     leaving : LeavesFirst g.tables q h place (ons g)
     leaving = leaves-first g.tables q h place (ons g) so.passed lent once
@@ -231,11 +222,7 @@ module _ (q place : ℕ) (f g : Fields) (so : Homing q place f g) where
 
     pub homing-done : SendsLentHome q f g
     homing-done = record {
-      leaves = record {
-        world = all-home;
-        stands = so.stands;
-        grows = record { jails = omega (arith, ap (λ (jails : List Jail). length jails) jails-same); pairs = omega (arith, so.numbers) };
-      };
+      leaves = leaves-same all-home so.stands (ap (λ (jails : List Jail). length jails) (same-jails f g so.others)) so.numbers (ap reading so.others);
       others = so.others;
       numbers = so.numbers;
       own = own-home;

@@ -1,22 +1,17 @@
 -- A jail ends: what is kept without it stands for the world in which its stack lives no more.
-use Rattle.std.proofs.Common.{◌≡◌, ◌≢◌, ℕ, ◌-◌, ◌<◌, ◌==◌, Bool, true, false, List, [], length, None, Some, refl, sym, ap, ap₂, ◌∙◌, subst, arith, ⊎_elim}
-use Rattle.std.specs.Prelude.{if◌then◌else◌, is_some}
+use Rattle.std.proofs.Common.{◌≡◌, ◌≢◌, ℕ, ◌<◌, ◌==◌, Bool, true, false, List, length, None, refl, sym, ap, ◌∙◌, arith, ⊎_elim}
+use Rattle.std.specs.Prelude.{if◌then◌else◌}
 use Rattle.std.specs.List.{list_any}
 use Rattle.std.proofs.lemmas.Bool.{both_ways, cases_eq, eq-eqb, ne_eqb}
-use Rattle.vn_types.specs.Entries.{each, find}
-use Rattle.vn_types.specs.Paths.{Path, above, path_cmp, path_eq}
+use Rattle.vn_types.specs.Entries.{each}
+use Rattle.vn_types.specs.Paths.{Path, above, path_eq}
 use Rattle.vn_types.specs.PathOrder.{path_eq-Decides}
-use Rattle.vn_types.specs.declared.half.Half.{Half}
-use Rattle.vn_types.specs.declared.interface.HalfId.{HalfId}
-use Rattle.vn_rules.specs.Renamed.{renamed}
-use Rattle.vn_epair.specs.Pairs.{of}
 use Rattle.vn_jail.specs.declared.jail.Jail.{Jail}
 use Rattle.vn_jail.specs.Kept.{IsLinked, IsTree}
 use Rattle.vn_jail.specs.Tree.{at, is_alive, is_known, number_of, path_at, removed, stop}
 use Rattle.vn_jail.proofs.Changes.{alive-at, alive-here, alive-stays, changed-at, changed-other, long, path-stays}
 use Rattle.vn_jail.proofs.Numbers.{alive-known, is-alive, is-known, number-is, number-known, within}
 use Rattle.vn_vmove.specs.declared.tables.Tables.{Tables}
-use Rattle.vn_vmove.specs.Parts.{lives, pair_at, parts}
 use Rattle.vn_cells.specs.declared.transcript.Entry.{Entry}
 use Rattle.vn_cells.specs.declared.world.Stack.{Stack}
 use Rattle.vn_cells.specs.commands.Jails.{counted_by, one_less, recount_above}
@@ -24,12 +19,12 @@ use Rattle.vn_cells.specs.commands.Removal.{killed}
 use Rattle.vn_cells.specs.world.World.{each_stack}
 use Rattle.vn_kernel.specs.Destruction.{Destructs}
 use Rattle.vn_kernel.specs.Fields.{Fields}
-use Rattle.vn_kernel.specs.Naming.{name_of}
 use Rattle.vn_kernel.specs.Stands.{Stands}
-use Rattle.vn_kernel.specs.Worlds.{children_at, live_of, pair_of, stack_of, world_of}
-use Rattle.vn_kernel.proofs.Created.{each-each, told-none, told-one}
-use Rattle.vn_kernel.proofs.Jails.{recounted}
-use Rattle.vn_kernel.proofs.Names.{names-same, pairs-same, stands-same}
+use Rattle.vn_kernel.specs.Worlds.{children_at, stack_of, world_of}
+use Rattle.vn_kernel.proofs.Created.{each-each}
+use Rattle.vn_kernel.proofs.Jails.{alive-numbered, recounted}
+use Rattle.vn_kernel.proofs.Names.{pairs-same, stands-same}
+use Rattle.vn_kernel.proofs.Others.{EditsStack, other-stack, pairs-kept}
 use Rattle.vn_kernel.proofs.Views.{stack-dead, stack-live}
 
 -- ---- the jails, by their paths and by their numbers
@@ -83,7 +78,7 @@ module _ (jails : List Jail) (linked : IsLinked jails) (number : ℕ) (alive : (
 
 -- ---- the world
 
-module _ (f : Fields) (s : Stands f) (number : ℕ) (jail : number ≢ 0) (alive : (at f.jails number).alive ≡ true)
+module _ (f : Fields) (s : Stands f) (number : ℕ) (alive : (at f.jails number).alive ≡ true)
     (linked : IsLinked (removed (path_at f.jails number) f.jails)) (tree : IsTree (removed (path_at f.jails number) f.jails))
     (u : Tables) (d : Destructs number f.tables u) where
   abbrev p : Path
@@ -93,54 +88,14 @@ module _ (f : Fields) (s : Stands f) (number : ℕ) (jail : number ≢ 0) (alive
   abbrev pub gone : Fields
   gone = record f { jails = removed (path_at f.jails number) f.jails; tables = u }
 
-  pairs-kept : (n : ℕ) → pair_at u n ≡ pair_at f.tables n
-  pairs-kept n = ap (λ rows. of rows n) d.pairs
-
-  paths : (n : ℕ) → n < length f.jails → path_at (removed (path_at f.jails number) f.jails) n ≡ path_at f.jails n
-  paths n lt = removed-paths f.jails s.linked number alive n
-
-  names : name_of gone ≡ name_of f
-  names = names-same f gone s paths pairs-kept
-
-  -- ---- another stack
-
-  module _ (q : Path) (ne : q ≢ path_at f.jails number) (es : List Entry) where
-    other-alive : is_alive q (removed (path_at f.jails number) f.jails) ≡ is_alive q f.jails
-    other-alive = removed-others-alive f.jails s.linked number alive q ne
-
-    module _ (living : is_alive q f.jails ≡ true) where
-      known : (number_of q f.jails < length f.jails) × (path_at f.jails (number_of q f.jails) ≡ q)
-      known = number-known f.jails q (alive-known f.jails q living)
-
-      same-number : number_of q (removed (path_at f.jails number) f.jails) ≡ number_of q f.jails
-      same-number = removed-number f.jails s.linked number alive linked q (alive-known f.jails q living)
-
-      apart : number_of q f.jails ≢ number
-      apart e = ne (sym known.1 ∙ ap (path_at f.jails) e)
-
-      told : children_at (removed (path_at f.jails number) f.jails) (number_of q (removed (path_at f.jails number) f.jails))
-          ≡ (if list_any (path_eq q) (above p) then counted_by one_less (children_at f.jails (number_of q f.jails)) else children_at f.jails (number_of q f.jails))
-      told =
-          ap (children_at (removed (path_at f.jails number) f.jails)) same-number
-          ∙ removed-others-children f.jails s.linked number alive (number_of q f.jails) known.0 apart
-          ∙ ap (λ r. if list_any (path_eq r) (above p) then counted_by one_less (children_at f.jails (number_of q f.jails)) else children_at f.jails (number_of q f.jails)) known.1
-
-      same-parts : renamed (name_of gone) (parts u (number_of q (removed (path_at f.jails number) f.jails))) ≡ renamed (name_of f) (parts f.tables (number_of q f.jails))
-      same-parts = ap₂ (λ (r : HalfId → Half) n. renamed r (parts u n)) names same-number ∙ ap (renamed (name_of f)) (d.others.others (number_of q f.jails) apart)
-
-      other-living : stack_of gone q es ≡ recount_above p one_less q (stack_of f q es)
-      other-living =
-          stack-live gone q es (other-alive ∙ living)
-          ∙ (λ i. record { entries = es; readers = []; live = Some (record { children = children_at (removed (path_at f.jails number) f.jails) (number_of q (removed (path_at f.jails number) f.jails)); parts = same-parts i }) })
-          ∙ told-one one_less (list_any (path_eq q) (above p)) es (live_of f (number_of q f.jails)) (children_at (removed (path_at f.jails number) f.jails) (number_of q (removed (path_at f.jails number) f.jails))) told
-          ∙ sym (ap (recount_above p one_less q) (stack-live f q es living))
-
-    other-stack : stack_of gone q es ≡ recount_above p one_less q (stack_of f q es)
-    other-stack = by (is_alive q f.jails) refl
-      where
-        by : (b : Bool) → is_alive q f.jails ≡ b → stack_of gone q es ≡ recount_above p one_less q (stack_of f q es)
-        by true living = other-living living
-        by false dead = stack-dead gone q es (other-alive ∙ dead) ∙ told-none one_less (list_any (path_eq q) (above p)) es ∙ sym (ap (recount_above p one_less q) (stack-dead f q es dead))
+  edits : EditsStack number p one_less f gone
+  edits = record {
+    paths = λ n lt. removed-paths f.jails s.linked number alive n;
+    children = removed-others-children f.jails s.linked number alive;
+    pairs = d.pairs;
+    others = d.others;
+    readers = refl;
+  }
 
   -- ---- each stack
 
@@ -157,7 +112,13 @@ module _ (f : Fields) (s : Stands f) (number : ℕ) (jail : number ≢ 0) (alive
     where
       by : (b : Bool) → path_eq q p ≡ b → stack_of gone q es ≡ (if b then record (stack_of f q es) { live = None } else recount_above p one_less q (stack_of f q es))
       by true is = own-stack q ((path_eq-Decides q p).0 is) es
-      by false is = other-stack q (λ e. both_ways _ is ((path_eq-Decides q p).1 e)) es
+      by false is =
+          let ne : q ≢ p = λ e. both_ways _ is ((path_eq-Decides q p).1 e) in
+          other-stack s edits q es (removed-others-alive f.jails s.linked number alive q ne)
+          (λ living. (
+            removed-number f.jails s.linked number alive linked q (alive-known f.jails q living),
+            λ e. ne (sym (alive-numbered f.jails q living).1 ∙ ap (path_at f.jails) e),
+          ))
 
   stacks-killed : each (stack_of gone) f.logs ≡ each kill (each (stack_of f) f.logs)
   stacks-killed = ap (λ (h : Path → List Entry → Stack). each h f.logs) (λ i q es. stack-killed q es i) ∙ sym (each-each (stack_of f) kill f.logs)
@@ -167,11 +128,11 @@ module _ (f : Fields) (s : Stands f) (number : ℕ) (jail : number ≢ 0) (alive
   world-killed i = record {
     clock = f.clock;
     stacks = stacks-killed i;
-    pairs = each (pairs-same f gone s paths pairs-kept i) f.units;
+    pairs = each (pairs-same f gone s edits.paths (pairs-kept f.tables u d.pairs) i) f.units;
   }
 
   pub stands-killed : Stands gone
   stands-killed =
-      stands-same f gone s paths pairs-kept refl linked tree
+      stands-same f gone s edits.paths (pairs-kept f.tables u d.pairs) refl linked tree
       (λ n. d.living n ∙ ap (λ b. if n == number then false else b) (s.living n) ∙ removed-lives f.jails s.linked number alive n)
-      d.sound (λ q known. s.listed q (removed-known f.jails s.linked number alive q known)) s.logs_rise
+      d.sound (λ q known. s.listed q (removed-known f.jails s.linked number alive q known)) s.logs_rise s.read

@@ -1,9 +1,9 @@
 -- The halves in a stack that are homed elsewhere, one by one and all in the world.
-use Rattle.std.proofs.Common.{◌≡◌, ℕ, ◌+◌, ◌≤◌, ◌==◌, Bool, true, false, not, ◌||◌, cond, List, [], ◌∷◌, length, take, map, Option, Some, None, unwrap_or, zero, suc, refl, sym, ap, ◌∙◌, subst, arith}
+use Rattle.std.proofs.Common.{◌≡◌, ℕ, ◌+◌, ◌≤◌, ◌==◌, Bool, true, false, not, ◌||◌, cond, List, [], ◌∷◌, length, take, map, Option, Some, None, unwrap_or, zero, suc, refl, sym, ap, ◌∙◌, arith}
 use Rattle.std.specs.Prelude.{filter, slice_get, if◌then◌else◌}
 use Rattle.std.specs.Cmp.{both_ways}
 use Rattle.std.specs.List.{filter_map, list_any, cons_option}
-use Rattle.std.specs.Option.{is_some, option_and_then, option_map}
+use Rattle.std.specs.Option.{option_and_then, option_map}
 use Rattle.std.proofs.lemmas.Bool.{eq-eqb, eqb-true, false_from_ne_true, false≢true, or_left, or_right}
 use Rattle.std.proofs.lemmas.Option.{slice_get-map}
 use Rattle.std.proofs.lemmas.List.Sums.{sum_by-cons}
@@ -23,7 +23,7 @@ use Rattle.vn_ifnet.specs.declared.interfaces.Attached.{Attached}
 use Rattle.vn_jail.specs.Tree.{at, is_alive, number_of, path_at}
 use Rattle.vn_jail.proofs.Numbers.{is-alive, number-is, within}
 use Rattle.vn_vmove.specs.Parts.{held, pair_at, parts}
-use Rattle.vn_vmove.specs.Sound.{IsSound, stands_at, times}
+use Rattle.vn_vmove.specs.Sound.{IsSound, times}
 use Rattle.vn_vmove.specs.declared.tables.Tables.{Tables}
 use Rattle.vn_vmove.proofs.Deciding.{if-Decides, if-refl}
 use Rattle.vn_vmove.proofs.Listing.{count, without-none}

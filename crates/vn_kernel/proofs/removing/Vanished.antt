@@ -1,9 +1,8 @@
 -- What is destroyed after vnet_if_return doesn't see whether the pairs that are homed in the stack have ended: what
 -- lives there is cleared anyhow, and elsewhere the pairs leave the same behind.
-use Rattle.std.proofs.Common.{◌≡◌, ℕ, Bool, true, false, ◌&&◌, ◌||◌, List, [], ◌∷◌, cond, Option, Some, None, drop, reverse, refl, sym, ap, ◌∙◌}
+use Rattle.std.proofs.Common.{◌≡◌, ℕ, Bool, true, false, List, [], ◌∷◌, cond, Option, Some, None, drop, reverse, refl, sym, ap, ◌∙◌}
 use Rattle.std.specs.Prelude.{if◌then◌else◌, filter}
-use Rattle.std.specs.Option.{is_some}
-use Rattle.std.specs.List.{list_any, list_all}
+use Rattle.std.specs.List.{list_all}
 use Rattle.std.specs.Map.{keys_of}
 use Rattle.std.specs.BTreeMap.{insert_entry}
 use Rattle.std.specs.Ordering.{match_ordering}
@@ -12,8 +11,7 @@ use Rattle.std.specs.declared.cmp.Ordering.TheVariants.{Less, Equal, Greater}
 use Rattle.std.proofs.lemmas.Bool.{and_parts, true≢false}
 use Rattle.vn_types.specs.declared.half.Half.{Half}
 use Rattle.vn_types.specs.Entries.{find, put, each}
-use Rattle.vn_types.specs.PathOrder.{path_cmp-exact, key_ties}
-use Rattle.vn_types.proofs.PathNames.{key_eq-Decides, key_total}
+use Rattle.vn_types.specs.PathOrder.{path_cmp-exact}
 use Rattle.vn_rules.specs.Construction.{RowOf, DownOf, Clears, SendsHome, DestroysHomed}
 use Rattle.vn_cells.specs.declared.transcript.What.{What}
 use Rattle.vn_cells.specs.declared.transcript.What.TheVariants.{Uninit}
@@ -21,7 +19,7 @@ use Rattle.vn_cells.specs.declared.world.Live.{Live}
 use Rattle.vn_cells.specs.declared.world.Pair.{Pair}
 use Rattle.vn_cells.specs.declared.world.Stack.{Stack}
 use Rattle.vn_cells.specs.declared.world.World.{World}
-use Rattle.vn_cells.specs.world.Names.{Path, Key, half_on, key_cmp, key_eq, path_cmp, path_eq}
+use Rattle.vn_cells.specs.world.Names.{Path, Key, half_on, key_cmp, path_cmp, path_eq}
 use Rattle.vn_types.specs.declared.interface.Side.TheVariants.{A, B}
 use Rattle.vn_cells.specs.world.World.{no_stack, stack_at, pair_at, live_map, on_parts, noting, entry_of, edit_stack, each_stack, edit_live, noted, drop_pair}
 use Rattle.vn_cells.specs.commands.Jails.{recount_above, one_less}
@@ -29,23 +27,17 @@ use Rattle.vn_cells.specs.commands.Pairs.{detached, unmade, destroyed_pair}
 use Rattle.vn_cells.specs.commands.Removal.{homed_at, killed, run_down, torn_down, without_pairs}
 use Rattle.vn_kernel.specs.Constructors.{constructors}
 use Rattle.vn_kernel.specs.Removal.{rows_before_return}
+use Rattle.vn_kernel.proofs.Created.{each-each}
 use Rattle.vn_kernel.proofs.Destroyed.{noted_each}
-use Rattle.vn_laws.proofs.edits.Cells.{none_lives, pair_listed, stack_at-each_stack}
-use Rattle.vn_laws.proofs.edits.Lists.{any-filter}
-use Rattle.vn_laws.proofs.jails.Own.{NoneHomed}
-use Rattle.vn_laws.proofs.pairs.Unmade.{pair_at-destroyed_pair}
+use Rattle.vn_laws.proofs.edits.Cells.{none_lives, stack_at-each_stack}
+use Rattle.vn_laws.proofs.jails.Own.{NoneHomed, is_own, none_homed}
 
 -- ---- two edits of stacks
-
-each-each : (f g : Path → Stack → Stack) (es : List (Path × Stack)) → each f (each g es) ≡ each (λ q s. f q (g q s)) es
-unfolding each
-each-each f g [] = refl
-each-each f g (e ∷ es) = ap (λ more. (e.0, f e.0 (g e.0 e.1)) ∷ more) (each-each f g es)
 
 -- one after the other is one edit
 fused : (f g h : Path → Stack → Stack) (w : World) → ((q : Path) (s : Stack) → f q (g q s) ≡ h q s) → each_stack f (each_stack g w) ≡ each_stack h w
 unfolding each_stack
-fused f g h w same = ap (λ es. record w { stacks = es }) (each-each f g w.stacks) ∙ (λ i. record w { stacks = each (λ q s. same q s i) w.stacks })
+fused f g h w same = ap (λ es. record w { stacks = es }) (each-each g f w.stacks) ∙ (λ i. record w { stacks = each (λ q s. same q s i) w.stacks })
 
 each-put : (g : Path → Stack → Stack) (p : Path) (s : Stack) (es : List (Path × Stack)) → each g (put path_cmp p s es) ≡ put path_cmp p (g p s) (each g es)
 unfolding each put
@@ -96,27 +88,6 @@ module _ (edit : World → World) (live : (q : Path) (f : Live → Live) (w : Wo
 
 -- the second time none is left
 module _ (p : Path) where
-  without_at : (ks : List Key) (w : World) (k : Key) → pair_at (without_pairs ks w) k ≡ (if list_any (key_eq k) ks then None else pair_at w k)
-  unfolding without_pairs
-  without_at [] w k = refl
-  without_at (q ∷ ks) w k = without_at ks (destroyed_pair q w) k ∙ ap (λ o. if list_any (key_eq k) ks then None else o) (pair_at-destroyed_pair q w k) ∙ by (list_any (key_eq k) ks) (key_eq k q) (pair_at w k)
-    where
-      by : (a b : Bool) (o : Option Pair) → (if a then None else (if b then None else o)) ≡ (if b || a then None else o)
-      by true true o = refl
-      by true false o = refl
-      by false true o = refl
-      by false false o = refl
-
-  none-homed : (w : World) → NoneHomed p (homeless p w)
-  none-homed w k home =
-      without_at (homed_at w p) w k
-      ∙ ap (λ b. if b then None else pair_at w k) (any-filter key_cmp key_total key_eq-Decides key_ties (λ k. path_eq k.0 p) k (keys_of w.pairs) ∙ ap (λ b. path_eq k.0 p && b) (pair_listed w k) ∙ ap (λ b. b && is_some (pair_at w k)) home)
-      ∙ by (pair_at w k)
-    where
-      by : (o : Option Pair) → (if is_some o then None else o) ≡ None
-      by None = refl
-      by (Some pair) = refl
-
   nothing-ends : (w : World) → NoneHomed p w → (ks : List Key) → without_pairs (filter (λ k. path_eq k.0 p) ks) w ≡ w
   unfolding without_pairs unmade
   nothing-ends w none [] = refl
@@ -128,7 +99,7 @@ module _ (p : Path) where
       by false home rest = rest
 
   homeless-twice : (w : World) → homeless p (homeless p w) ≡ homeless p w
-  homeless-twice w = nothing-ends (homeless p w) (none-homed w) (keys_of (homeless p w).pairs)
+  homeless-twice w = nothing-ends (homeless p w) (none_homed p w) (keys_of (homeless p w).pairs)
 
 -- ---- a world but for what lives in one stack
 
@@ -216,12 +187,7 @@ module _ (clock : ℕ) (p : Path) where
   endings [] w = w
   endings (row ∷ more) w = ending row.down (endings more w)
 
-  abbrev sends_none : DownOf Half → Bool
-  sends_none (Clears f) = true
-  sends_none SendsHome = false
-  sends_none DestroysHomed = true
-
-  but_live-down : (d : DownOf Half) (w : World) → sends_none d ≡ true → but_live p (run_down p d w) ≡ ending d (but_live p w)
+  but_live-down : (d : DownOf Half) (w : World) → is_own p d ≡ true → but_live p (run_down p d w) ≡ ending d (but_live p w)
   unfolding run_down
   but_live-down (Clears f) w none = but_live-own p (on_parts f) w
   but_live-down SendsHome w none = absurd (true≢false (sym none))
@@ -233,7 +199,7 @@ module _ (clock : ℕ) (p : Path) where
   entered-ending DestroysHomed before w = sym (entered-homeless before w)
 
   -- where no row sends halves home, the pairs end, and then the entries come
-  but_live-torn : (before : List (RowOf Half)) (w : World) → list_all (λ (row : RowOf Half). sends_none row.down) before ≡ true
+  but_live-torn : (before : List (RowOf Half)) (w : World) → list_all (λ (row : RowOf Half). is_own p row.down) before ≡ true
       → but_live p (torn_down clock p before w) ≡ entered before (endings before (but_live p w))
   unfolding torn_down
   but_live-torn [] w none = refl

@@ -2,6 +2,7 @@
 use Rattle.std.proofs.Common.{◌≡◌, ℕ, ◌+◌, ◌^◌, List, [], ◌∷◌, map, Option, Some, None, refl, ap, ◌∙◌, true, arith}
 use Rattle.std.specs.Prelude.{if◌then◌else◌}
 use Rattle.std.specs.Option.{option_map}
+use Rattle.vn_types.specs.declared.half.Half.{Half}
 use Rattle.vn_types.specs.declared.interface.HalfId.{HalfId}
 use Rattle.vn_types.specs.declared.interface.IfOf.{IfOf}
 use Rattle.vn_types.specs.declared.interface.IfOf.TheVariants.{Lo0, Half as OfHalf}
@@ -12,7 +13,8 @@ use Rattle.vn_types.specs.Interfaces.{as_if}
 use Rattle.vn_types.specs.Paths.{Path, Key, key_cmp}
 use Rattle.vn_types.proofs.Options.{some_same}
 use Rattle.vn_rules.specs.Renamed.{renamed}
-use Rattle.vn_rules.specs.Scenes.{as_link, renamed_scene}
+use Rattle.vn_rules.specs.Rules.{Common}
+use Rattle.vn_rules.specs.Scenes.{SceneOf, as_link, renamed_scene}
 use Rattle.vn_epair.specs.Halves.{Pair as PairOfNumber}
 use Rattle.vn_epair.specs.Pairs.{end_of as end_of_number}
 use Rattle.vn_jail.specs.Tree.{is_alive, number_of}
@@ -30,6 +32,24 @@ use Rattle.vn_kernel.proofs.Views.{live-here}
 use Rattle.vn_kernel.proofs.moving.Faithful.{small-unit}
 use Rattle.vn_kernel.proofs.moving.Found.{found-key}
 use Rattle.vn_kernel.proofs.moving.Unmade.{pair-found, pair-there}
+
+-- ---- what a rule near a stack is handed
+
+-- the clock
+abbrev pub common_in : Fields → Common
+common_in f = record { clock = f.clock }
+
+-- a scene, under the names of halves
+abbrev pub named_scene : Fields → SceneOf HalfId → SceneOf Half
+named_scene f scene = renamed_scene (name_of f) scene
+
+-- the scene of a stack, by its number
+abbrev pub scene_at : Fields → ℕ → SceneOf HalfId
+scene_at f number = scene_of f.tables number
+
+-- the halves that stand there, by their names
+abbrev pub halves_here : Fields → ℕ → List Half
+halves_here f number = halves_of (map (as_if (name_of f)) (parts f.tables number).interfaces)
 
 module _ {f : Fields} (s : Stands f) where
   -- ---- what is kept of a half
@@ -81,12 +101,12 @@ module _ {f : Fields} (s : Stands f) where
   links-are (OfHalf h ∷ ifs) = λ i. link-is h i ∷ links-are ifs i
 
   -- by a stack's number
-  pub scene_is : (number : ℕ) → scene_in (world_of f) (renamed (name_of f) (parts f.tables number)) ≡ renamed_scene (name_of f) (scene_of f.tables number)
+  pub scene_is : (number : ℕ) → scene_in (world_of f) (renamed (name_of f) (parts f.tables number)) ≡ named_scene f (scene_at f number)
   unfolding scene_in scene_of renamed_scene renamed
   scene_is number i = record { parts = renamed (name_of f) (parts f.tables number); links = links-are (parts f.tables number).interfaces i }
 
   -- at a living path
-  pub scene_here : (p : Path) → is_alive p f.jails ≡ true → (here_at (world_of f) p).scene ≡ Some (renamed_scene (name_of f) (scene_of f.tables (number_of p f.jails)))
+  pub scene_here : (p : Path) → is_alive p f.jails ≡ true → (here_at (world_of f) p).scene ≡ Some (named_scene f (scene_at f (number_of p f.jails)))
   scene_here p alive =
       ap (option_map (λ (live : Live). scene_in (world_of f) live.parts)) (live-here f s p ∙ ap (λ b. if b then Some (live_of f (number_of p f.jails)) else None) alive)
       ∙ ap Some (scene_is (number_of p f.jails))

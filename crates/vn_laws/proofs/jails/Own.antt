@@ -128,7 +128,7 @@ module _ (q : Path) where
       by false e ih = ih
 
   -- the cloner leaves no pair that is homed there
-  none_homed : (v : World) → NoneHomed q (without_pairs (homed_at v q) v)
+  pub none_homed : (v : World) → NoneHomed q (without_pairs (homed_at v q) v)
   none_homed v k home =
       without_at (homed_at v q) v k
       ∙ ap (λ b. if b then None else pair_at v k) (any-filter key_cmp key_total key_eq-Decides key_ties (λ k. path_eq k.0 q) k (keys_of v.pairs) ∙ ap (λ b. path_eq k.0 q && b) (pair_listed v k) ∙ ap (λ b. b && is_some (pair_at v k)) home)

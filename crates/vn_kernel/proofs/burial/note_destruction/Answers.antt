@@ -1,4 +1,4 @@
-use Rattle.std.proofs.Common.{◌≡◌, drop, reverse, length, refl, sym, ap, ◌∙◌, arith}
+use Rattle.std.proofs.Common.{◌≡◌, length, refl, ap, ◌∙◌, arith}
 use Rattle.vn_kernel.specs.Constructors.{constructors}
 use Rattle.vn_kernel.specs.Fields.{Fields, fields}
 use Rattle.vn_kernel.proofs.Destroyed.{noted-next, noted-all}

@@ -1,4 +1,4 @@
-use Rattle.vn_kernel.proofs.Destructed.{destructs, has-loopback, has-variables}
+use Rattle.vn_kernel.proofs.Destructed.{destructs}
 use Rattle.vn_kernel.proofs.destruction.destruct.Goals as goal
 
 pub returns : goal.returns

@@ -1,8 +1,6 @@
-use Rattle.std.proofs.Common.{map, length, refl, sym, ap, ◌∙◌, arith}
-use Rattle.vn_ifnet.specs.declared.interfaces.Attached.{Attached}
-use Rattle.vn_vmove.specs.Parts.{held, parts}
+use Rattle.std.proofs.Common.{sym, arith}
 use Rattle.vn_kernel.specs.Fields.{fields}
-use Rattle.vn_kernel.proofs.removing.Homing.{fewer-left, homing-done, homing-none, homing-passed, homing-sent, lent-exists}
+use Rattle.vn_kernel.proofs.removing.Homing.{fewer-left, homing-done, homing-passed, homing-sent, lent-exists}
 use Rattle.vn_kernel.proofs.homecoming.send_lent_home.Goals.{in-Some+in_ok-send_half_home-in-Some, in-None}
 use Rattle.vn_kernel.proofs.homecoming.send_lent_home.Goals as goal
 

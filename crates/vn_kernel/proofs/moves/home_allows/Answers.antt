@@ -3,12 +3,13 @@ use Rattle.vn_types.specs.Paths.{is_under}
 use Rattle.vn_jail.specs.Tree.{path_at}
 use Rattle.vn_kernel.specs.Fields.{fields}
 use Rattle.vn_kernel.proofs.Stacks.{its-number}
-use Rattle.vn_kernel.proofs.moving.Answered.{home-allows, home-within, pair-exists}
+use Rattle.vn_kernel.proofs.moving.Answered.{home-allows, home-within}
+use Rattle.vn_kernel.proofs.moving.Found.{found-exists}
 use Rattle.vn_kernel.proofs.moves.home_allows.Goals as goal
 
 pub home-home-requires : goal.home-home-requires
 home-home-requires c =
-    pair-exists (fields c.args.state.now) c.requires.stands c.args.name c.in-Some.sid c.in-Some-Half.half (rw c.in-Some-Half.field-0-is at c.in-Some-Half.ensures)
+    found-exists c.requires.stands c.in-Some.sid.0 c.args.name c.in-Some-Half.half (rw c.in-Some-Half.field-0-is at c.in-Some-Half.ensures)
 
 pub path-requires : goal.path-requires
 path-requires c = its-number c.requires

@@ -1,18 +1,15 @@
-use Rattle.std.proofs.Common.{◌≡◌, IfOk, OnErr, ap, ◌∙◌, subst}
+use Rattle.std.proofs.Common.{◌≡◌, IfOk, OnErr, ◌∙◌, subst}
 use Rattle.vn_types.specs.Paths.{key_cmp}
 use Rattle.vn_types.specs.Refusals.{IsRefusedBy}
-use Rattle.vn_vmove.specs.Parts.{lives}
 use Rattle.vn_jail.specs.Tree.{path_at}
 use Rattle.vn_kernel.specs.Fields.{fields}
 use Rattle.vn_kernel.proofs.Stacks.{its-path}
 use Rattle.vn_kernel.specs.Makings.{making_refusal, Makes}
-use Rattle.vn_kernel.proofs.making.Found.{number-lives}
 use Rattle.vn_kernel.proofs.making.Answered.{made-unit, refused-unit}
 use Rattle.vn_kernel.proofs.pairs.make_unit.Goals as goal
 
 pub make_pair-requires-clause-living : goal.make_pair-requires-clause-living
-make_pair-requires-clause-living c =
-    ap (lives c.args.state.now.tables) (its-path c.requires.stack).1 ∙ number-lives (fields c.args.state.now) c.requires.stack.stands (path_at c.args.state.now.jails c.args.home.0) (its-path c.requires.stack).0
+make_pair-requires-clause-living c = c.requires.stack.stands.living c.args.home.0 ∙ c.requires.stack.alive
 
 pub returns-in-Err : goal.returns-in-Err
 returns-in-Err c = refused-unit (fields c.args.state.now) c.requires.stack.stands (path_at c.args.state.now.jails c.args.home.0) (its-path c.requires.stack).0 c.args.home.0 (its-path c.requires.stack).1 c.args.unit c.in-Err.errno

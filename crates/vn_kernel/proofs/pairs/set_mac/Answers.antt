@@ -2,11 +2,12 @@ use Rattle.std.proofs.Common.{sym, ◌∙◌}
 use Rattle.vn_jail.specs.Tree.{path_at}
 use Rattle.vn_kernel.specs.Fields.{fields}
 use Rattle.vn_kernel.proofs.Stacks.{its-path}
-use Rattle.vn_kernel.proofs.ether.Answered.{mac-bad, mac-done, mac-lo0, mac-missing, mac-there}
+use Rattle.vn_kernel.proofs.ether.Answered.{mac-bad, mac-done, mac-lo0, mac-missing}
+use Rattle.vn_kernel.proofs.moving.Found.{found-exists}
 use Rattle.vn_kernel.proofs.pairs.set_mac.Goals as goal
 
 pub set_mac-requires : goal.set_mac-requires
-set_mac-requires c = mac-there (fields c.args.state.now) c.requires.stands (path_at c.args.state.now.jails c.args.sid.0) (its-path c.requires).0 c.args.sid.0 (its-path c.requires).1 c.args.name c.args.mac c.in-Some-Half.half (rw c.in-Some-Half.field-0-is at c.in-Some-Half.ensures)
+set_mac-requires c = found-exists c.requires.stands c.args.sid.0 c.args.name c.in-Some-Half.half (rw c.in-Some-Half.field-0-is at c.in-Some-Half.ensures)
 
 pub returns-in-None : goal.returns-in-None
 returns-in-None c = mac-missing (fields c.args.state.now) c.requires.stands (path_at c.args.state.now.jails c.args.sid.0) (its-path c.requires).0 c.args.sid.0 (its-path c.requires).1 c.args.name c.args.mac c.in-None.ensures

@@ -1,7 +1,7 @@
 use Rattle.std.proofs.Common.{drop, drop-cons, add-one, sym, ap, ◌∙◌, arith}
 use Rattle.std.proofs.lemmas.List.{drop_all}
 use Rattle.vn_kernel.specs.Fields.{fields}
-use Rattle.vn_kernel.proofs.removing.Ending.{ending-done, ending-next, ending-none, next-exists, next-left}
+use Rattle.vn_kernel.proofs.removing.Ending.{ending-done, ending-next, next-exists, next-left}
 use Rattle.vn_kernel.proofs.removal.end_homed.Goals as goal
 
 pub end_pair-requires-clause-exists : goal.end_pair-requires-clause-exists

@@ -1,7 +1,7 @@
-use Rattle.std.proofs.Common.{add-one, drop, drop-cons, subst, sym, ap, ◌∙◌, arith}
+use Rattle.std.proofs.Common.{add-one, drop, drop-cons, subst, sym, arith}
 use Rattle.std.proofs.lemmas.List.{drop_all}
 use Rattle.vn_kernel.specs.Fields.{fields}
-use Rattle.vn_kernel.proofs.removing.Removed.{Tearing, next-alive, next-childless, next-jail, removal-refused, tearing-done, tearing-next, tearing-none}
+use Rattle.vn_kernel.proofs.removing.Removed.{Tearing, next-childless, next-jail, next-stack, removal-refused, tearing-done, tearing-next, tearing-none}
 use Rattle.vn_kernel.proofs.removal.remove_jail.Goals as goal
 
 pub returns-in-Err : goal.returns-in-Err
@@ -10,9 +10,9 @@ returns-in-Err c = removal-refused (fields c.args.state.now) c.requires.stands c
 pub loop-sid-init : goal.loop-sid-init
 loop-sid-init c = rw c.deref-sid-items.ensures.value (tearing-none (fields c.args.state.now) c.requires.stands c.args.jail.now c.in-Ok.sids.items (rw c.in-Ok.is at c.in_ok-sids.ensures.listed))
 
-pub end_stack-requires-clause-alive : goal.end_stack-requires-clause-alive
-end_stack-requires-clause-alive c =
-    next-alive (fields c.args.state.now) (fields c.loop-sid.state) c.args.jail.now c.requires.label _ _
+pub end_stack-requires-clause-stack : goal.end_stack-requires-clause-stack
+end_stack-requires-clause-stack c =
+    next-stack (fields c.args.state.now) (fields c.loop-sid.state) c.args.jail.now c.requires.label _ _
     (subst (λ rest. Tearing c.args.jail.now rest (fields c.args.state.now) (fields c.loop-sid.state)) (drop-cons c.deref-sid-items.result.now c.loop-sid.sid-index _ c.loop-sid-test.true) c.loop-sid.invariant)
 
 pub end_stack-requires-clause-jail : goal.end_stack-requires-clause-jail

@@ -1,26 +1,13 @@
-use Rattle.std.proofs.Common.{ap}
 use Rattle.std.proofs.lemmas.Result.{IfOk-weaker}
-use Rattle.vn_kernel.proofs.Arms.{addressed, any_made, created, destroyed, joins, lent, lowered, names_jail, only_built, path_in, raised, reclaimed, removed, unit_made}
+use Rattle.vn_kernel.proofs.Arms.{addressed, any_made, created, destroyed, lent, lowered, only_built, raised, reclaimed, removed, unit_made}
 use Rattle.vn_kernel.proofs.running.run_living.Goals as goal
 
 -- ---- jails
-
-pub join-requires : goal.join-requires
-join-requires c = joins c.args.issuer.now _ c.args.command.now (ap path_in c.in-JailCreate.is) c.requires.valid
-
-pub make_jail-requires-clause-label : goal.make_jail-requires-clause-label
-make_jail-requires-clause-label c = names_jail c.args.issuer.now _ c.args.command.now (ap path_in c.in-JailCreate.is) c.requires.valid _ c.in_ok-jail-in-JailCreate.ensures
 
 pub returns-in_ok-jail-in-JailCreate : goal.returns-in_ok-jail-in-JailCreate
 returns-in_ok-jail-in-JailCreate c = IfOk-weaker c.make_jail.result _ _
     (λ outcome is. created c.requires.stack c.args.issuer.now c.requires.own c.args.command.now _ _ c.in_ok-jail-in-JailCreate.ensures _ c.in-JailCreate.is is)
     c.make_jail.ensures
-
-pub join-requires-in-JailRemove : goal.join-requires-in-JailRemove
-join-requires-in-JailRemove c = joins c.args.issuer.now _ c.args.command.now (ap path_in c.in-JailRemove.is) c.requires.valid
-
-pub remove_jail-requires-clause-label : goal.remove_jail-requires-clause-label
-remove_jail-requires-clause-label c = names_jail c.args.issuer.now _ c.args.command.now (ap path_in c.in-JailRemove.is) c.requires.valid _ c.in_ok-jail-in-JailRemove.ensures
 
 pub returns-in_ok-jail-in-JailRemove : goal.returns-in_ok-jail-in-JailRemove
 returns-in_ok-jail-in-JailRemove c = IfOk-weaker c.remove_jail.result _ _
@@ -49,16 +36,10 @@ returns-in-Ether c = addressed c.requires.stack c.args.issuer.now c.requires.own
 
 -- ---- moves
 
-pub join-requires-in-Vnet : goal.join-requires-in-Vnet
-join-requires-in-Vnet c = joins c.args.issuer.now _ c.args.command.now (ap path_in c.in-Vnet.is) c.requires.valid
-
 pub returns-in_ok-to-in-Vnet : goal.returns-in_ok-to-in-Vnet
 returns-in_ok-to-in-Vnet c = IfOk-weaker c.lend_half.result _ _
     (λ outcome is. lent c.requires.stack c.args.issuer.now c.requires.own c.args.command.now _ _ c.in_ok-to-in-Vnet.ensures _ c.in-Vnet.is is)
     c.lend_half.ensures
-
-pub join-requires-in-VnetBack : goal.join-requires-in-VnetBack
-join-requires-in-VnetBack c = joins c.args.issuer.now _ c.args.command.now (ap path_in c.in-VnetBack.is) c.requires.valid
 
 pub returns-in_ok-from-in-VnetBack : goal.returns-in_ok-from-in-VnetBack
 returns-in_ok-from-in-VnetBack c = IfOk-weaker c.reclaim_half.result _ _
