@@ -1,34 +1,15 @@
--- What the lines of a script make happen where the program runs them: one event each.
-use Rattle.std.specs.Prelude.{◌≡◌, ℕ, ◌<◌, ◌≤◌, Bool, ◌&&◌, List, [], ◌∷◌, ◌++◌, length, Result, Ok, Err, IsTrue, OnOk}
-use Rattle.std.specs.List.{list_all}
+-- How the parts and lines of a script run on the kernel.
+use Rattle.std.specs.Prelude.{◌≡◌, ◌<◌, ◌≤◌, List, ◌++◌, length, Some, Result, Ok, Err, OnOk}
 use Rattle.vn_cells.specs.declared.event.Event.{Event}
-use Rattle.vn_cells.specs.declared.event.Event.TheVariants as event
 use Rattle.vn_cells.specs.declared.event.TheConstants.{EVENTS_MAX}
-use Rattle.vn_cells.specs.declared.script.Line.{Line}
-use Rattle.vn_cells.specs.declared.script.Line.TheVariants as line
-use Rattle.vn_cells.specs.declared.script.LaneLine.{LaneLine}
-use Rattle.vn_cells.specs.machine.Events.{is_valid_line}
-use Rattle.vn_cells.specs.world.Names.{Path}
+use Rattle.vn_cells.specs.machine.Step.{run}
+use Rattle.vn_kernel.specs.Machines.{Machine}
 use Rattle.vn_kernel.specs.declared.kernel.StepFault.{StepFault}
 use Rattle.vn_kernel.specs.declared.kernel.StepFault.TheVariants as fault
-use Rattle.vn_shell.specs.Readings.{is_built_lane}
 
--- the command that is asked for at a path, as an event
-abbrev pub command_events : ℕ → Path → Line → List Event
-command_events lane path (line.Cmd command) = event.Cmd lane path command ∷ []
-command_events lane path _ = []
-
--- the command of a line, as an event
-abbrev pub events_of : LaneLine → List Event
-events_of asked = command_events asked.lane asked.path asked.line
-
--- whether the events of a line can happen, and the program runs it
-abbrev pub can_run_line : LaneLine → Bool
-can_run_line asked = is_valid_line asked && is_built_lane asked
-
--- all lines are such
-abbrev pub CanRunLines : List LaneLine → Type 0
-CanRunLines lines = IsTrue (list_all can_run_line lines)
+-- the kernel is not spent, and its world is the run of its events
+abbrev pub StandsForHistory : Machine → Type 0
+StandsForHistory kernel = kernel.world ≡ Some (run kernel.events)
 
 -- the events of a run are more than a history may have; want of memory says nothing
 abbrev pub TellsFault : StepFault → List Event → Type 0

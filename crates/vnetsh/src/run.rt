@@ -1,17 +1,35 @@
-ghost use Rattle.std.specs.Prelude.{◌≡◌, ◌≤◌, ◌∷◌, [], true, length, IfOk, IsTrue};
-ghost use Rattle.std.specs.List.{flat_map};
-ghost use Rattle.vn_cells.specs.machine.Events.{IsValidEvent, is_built, is_valid_script};
+ghost use Rattle.std.specs.Prelude.{◌≡◌, ◌≤◌, ◌∷◌, ◌++◌, [], true, length, replicate, IfOk, OnOk};
+ghost use Rattle.std.specs.List.{list_all};
+ghost use Rattle.vn_cells.specs.declared.event.Event.TheVariants as event;
+ghost use Rattle.vn_cells.specs.declared.script.Line.TheVariants as line;
+ghost use Rattle.vn_cells.specs.machine.Events.{
+  IsValidEvent,
+  is_at_path,
+  is_built,
+  is_built_line,
+  is_valid_line,
+  is_valid_part,
+  is_valid_script,
+};
+ghost use Rattle.vn_cells.specs.machine.Step.{run};
 ghost use Rattle.vn_cells.specs.texts.Reports.{report_of};
-ghost use Rattle.vn_cells.specs.texts.Schedule.{serial_run};
+ghost use Rattle.vn_cells.specs.texts.Schedule.{
+  line_events,
+  lines_events,
+  listing_events,
+  part_events,
+  parts_events,
+  serial_run,
+};
 ghost use Rattle.vn_cells.specs.texts.Text.{text};
-ghost use Rattle.vn_shell.specs.Readings.{is_built_script, lines_in};
-ghost use Rattle.vnetsh.specs.Runs.{CanRunLines, Happen, TellsLong, can_run_line, events_of};
+ghost use Rattle.vn_shell.specs.Readings.{is_built_lane, is_built_part, is_built_script};
+ghost use Rattle.vnetsh.specs.Runs.{Happen, StandsForHistory, TellsLong};
 
 use std::alloc::Global;
-use vn_cells::{EVENTS_MAX, Event, LaneLine, Line, Part, Report, Script};
+use vn_cells::{EVENTS_MAX, Event, LaneLine, Line, Part, Report, Script, Table};
 use vn_kernel::{Kernel, StepFault};
 use vn_text::{law_of_reports, write_report};
-use vn_types::List;
+use vn_types::{List, Path};
 
 /// The text of the run of a script.
 pub(crate) fn run_text(alloc: Global, script: Script) -> Result<Vec<u8>, StepFault>
@@ -40,11 +58,15 @@ fn run_script(alloc: Global, script: Script) -> Result<Report, StepFault>
     Ok(report)
 }
 
+/// Runs the parts of a script, each in the world that those before it left.
 fn run_parts(kernel: &mut Kernel, parts: List<Part>) -> Result<(), StepFault>
-    requires valid { CanRunLines (flat_map lines_in parts) }
+    requires valid { list_all is_valid_part parts ≡ true }
+    requires built { list_all is_built_part parts ≡ true }
+    requires standing { StandsForHistory kernel.old }
     requires room { length kernel.old.events ≤ EVENTS_MAX }
-    ensures { Happen (flat_map events_of (flat_map lines_in parts)) result
+    ensures happened { Happen (parts_events (run kernel.old.events) parts) result
         kernel.old.events kernel.new.events }
+    ensures standing { OnOk result (StandsForHistory kernel.new) }
 {
     for part in parts.into_vec() {
         run_part(kernel, part)?;
@@ -52,24 +74,32 @@ fn run_parts(kernel: &mut Kernel, parts: List<Part>) -> Result<(), StepFault>
     Ok(())
 }
 
+#[tactic(auto, unfolding(vn_cells::specs::texts::Schedule::part_events))]
 fn run_part(kernel: &mut Kernel, part: Part) -> Result<(), StepFault>
-    requires valid { CanRunLines (lines_in part) }
+    requires valid { is_valid_part part ≡ true }
+    requires built { is_built_part part ≡ true }
+    requires standing { StandsForHistory kernel.old }
     requires room { length kernel.old.events ≤ EVENTS_MAX }
-    ensures { Happen (flat_map events_of (lines_in part)) result
+    ensures happened { Happen (part_events (run kernel.old.events) part) result
         kernel.old.events kernel.new.events }
+    ensures standing { OnOk result (StandsForHistory kernel.new) }
 {
     match part {
         Part::Phase(lines) => run_lines(kernel, lines),
         // No script that is read has such a part yet.
-        Part::Settle | Part::Sleep(_) => Ok(()),
+        Part::Settle | Part::Sleep(_) => unreachable!(),
     }
 }
 
-/// Runs the lines of a phase in script order.
+/// Runs the lines of a phase in script order, each in the world that those before it left.
 fn run_lines(kernel: &mut Kernel, lines: List<LaneLine>) -> Result<(), StepFault>
-    requires valid { CanRunLines lines }
+    requires valid { list_all is_valid_line lines ≡ true }
+    requires built { list_all is_built_lane lines ≡ true }
+    requires standing { StandsForHistory kernel.old }
     requires room { length kernel.old.events ≤ EVENTS_MAX }
-    ensures { Happen (flat_map events_of lines) result kernel.old.events kernel.new.events }
+    ensures happened { Happen (lines_events (run kernel.old.events) lines) result
+        kernel.old.events kernel.new.events }
+    ensures standing { OnOk result (StandsForHistory kernel.new) }
 {
     for line in lines.into_vec() {
         run_line(kernel, line)?;
@@ -77,30 +107,92 @@ fn run_lines(kernel: &mut Kernel, lines: List<LaneLine>) -> Result<(), StepFault
     Ok(())
 }
 
+#[tactic(auto, unfolding(vn_cells::specs::texts::Schedule::line_events))]
 fn run_line(kernel: &mut Kernel, line: LaneLine) -> Result<(), StepFault>
-    requires valid { IsTrue (can_run_line line) }
+    requires valid { is_valid_line line ≡ true }
+    requires built { is_built_lane line ≡ true }
+    requires standing { StandsForHistory kernel.old }
     requires room { length kernel.old.events ≤ EVENTS_MAX }
-    ensures { Happen (flat_map events_of (line ∷ [])) result kernel.old.events kernel.new.events }
-{
-    let event = event_of(line);
-    kernel.step(event)
-}
-
-/// The one event of a line.
-fn event_of(line: LaneLine) -> Event
-    requires { IsTrue (can_run_line line) }
-    ensures is { flat_map events_of (line ∷ []) ≡ result ∷ [] }
-    ensures valid { IsValidEvent result }
-    ensures built { is_built result ≡ true }
+    ensures happened { Happen (line_events (run kernel.old.events) line) result
+        kernel.old.events kernel.new.events }
+    ensures standing { OnOk result (StandsForHistory kernel.new) }
 {
     let LaneLine { lane, path, line } = line;
     match line {
-        Line::Cmd(command) => Event::Cmd {
-            lane,
-            path,
-            command,
-        },
-        // The program runs no other line yet.
-        _ => unreachable!(),
+        Line::Cmd(command) => run_event(
+            kernel,
+            Event::Cmd {
+                lane,
+                path,
+                command,
+            },
+        ),
+        Line::List(table) => run_listing(kernel, lane, path, table),
+        Line::Open(table) => run_event(kernel, Event::Open { lane, path, table }),
+        Line::Next => run_event(kernel, Event::Next { lane, path }),
+        Line::Close => run_event(kernel, Event::Close { lane, path }),
+        // No script that is read has such a line yet.
+        Line::Watch => unreachable!(),
     }
+}
+
+/// Opens a reader of a table. Where the lane may, it reads each line that was kept, and closes the reader.
+#[tactic(auto, unfolding(vn_cells::specs::machine::Events::is_valid_event))]
+fn run_listing(kernel: &mut Kernel, lane: u8, path: Path, table: Table) -> Result<(), StepFault>
+    requires valid { is_at_path lane path ≡ true }
+    requires built { is_built_line (line.List table) ≡ true }
+    requires standing { StandsForHistory kernel.old }
+    requires room { length kernel.old.events ≤ EVENTS_MAX }
+    ensures happened { Happen (listing_events (run kernel.old.events) lane path table) result
+        kernel.old.events kernel.new.events }
+    ensures standing { OnOk result (StandsForHistory kernel.new) }
+{
+    let before = kernel.remaining(lane, &path);
+    let copy = path.copy()?;
+    run_event(
+        kernel,
+        Event::Open {
+            lane,
+            path: copy,
+            table,
+        },
+    )?;
+    let after = kernel.remaining(lane, &path);
+    match (before, after) {
+        (None, Some(lines)) => read_lines(kernel, lane, path, lines),
+        // The lane may not open a reader where no stack lives, nor a second one.
+        (None, None) => Ok(()),
+        (Some(_), _) => Ok(()),
+    }
+}
+
+/// Reads so many lines of a lane's reader, and closes it.
+#[tactic(auto, unfolding(vn_cells::specs::machine::Events::is_valid_event))]
+fn read_lines(kernel: &mut Kernel, lane: u8, path: Path, lines: u64) -> Result<(), StepFault>
+    requires valid { is_at_path lane path ≡ true }
+    requires next { is_built (event.Next lane path) ≡ true }
+    requires close { is_built (event.Close lane path) ≡ true }
+    requires standing { StandsForHistory kernel.old }
+    requires room { length kernel.old.events ≤ EVENTS_MAX }
+    ensures happened { Happen (replicate lines (event.Next lane path) ++ event.Close lane path ∷ []) result
+        kernel.old.events kernel.new.events }
+    ensures standing { OnOk result (StandsForHistory kernel.new) }
+{
+    for _ in 0..lines {
+        let copy = path.copy()?;
+        run_event(kernel, Event::Next { lane, path: copy })?;
+    }
+    run_event(kernel, Event::Close { lane, path })
+}
+
+/// Lets one event happen.
+fn run_event(kernel: &mut Kernel, event: Event) -> Result<(), StepFault>
+    requires valid { IsValidEvent event }
+    requires built { is_built event ≡ true }
+    requires standing { StandsForHistory kernel.old }
+    requires room { length kernel.old.events ≤ EVENTS_MAX }
+    ensures happened { Happen (event ∷ []) result kernel.old.events kernel.new.events }
+    ensures standing { OnOk result (StandsForHistory kernel.new) }
+{
+    kernel.step(event)
 }
